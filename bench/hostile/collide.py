@@ -4,7 +4,7 @@ import subprocess
 import tempfile
 from pathlib import Path
 
-from .cases import Case, Kind, against_itself, listed
+from .cases import Case, Kind, against, against_itself, listed, noted
 from .dwarf import (
     AT_LANGUAGE,
     C99,
@@ -20,9 +20,10 @@ from .dwarf import (
     Info,
     table,
 )
-from .elf import Symbol, image, symbol_sections
+from .elf import Symbol, image, symbol_sections, version_sections
 from .encode import short_name, u8, u32, u64
 from .library import library
+from .names import MOST_VERSIONS
 
 SEED = 0x243F6A8885A308D3
 FACTOR = 0x9E3779B97F4A7C15
@@ -46,7 +47,7 @@ def bits_for(count: int) -> int:
 
 
 def colliding(count: int, state: int = SEED, form: str = "numbers") -> list[int]:
-    """`count` different keys of eight bytes that collide, as numbers."""
+    """`count` different keys of eight bytes that collide, as numbers. `form` is that of the program."""
     source = Path(__file__).with_name("collide.c")
     with tempfile.TemporaryDirectory() as folder:
         program = f"{folder}/collide"
@@ -138,6 +139,40 @@ def codes_that_collide(count: int) -> Case:
     return listed(library(info, [], abbreviations=tables + b"\0"))
 
 
+def pairs_that_collide(count: int) -> Case:
+    """A function whose parameters have other types in the new library, so that the pairs of their numbers collide in a set. Another
+    function takes all types, so each has the same number in both libraries: its place."""
+    pairs = [(key >> 32, key & 0xFFFFFFFF) for key in colliding(count, SEED, "pairs")]
+    most = max(max(pair) for pair in pairs)
+    files = []
+    for side in (0, 1):
+        info = Info()
+        info.begin()
+        wholes = []
+        for size in range(1, most + 1):
+            wholes.append(info.add(STRUCT, u32(size)))
+            info.close()
+        info.function(0x1000, *wholes)
+        info.function(0x1010, *[wholes[pair[side] - 1] for pair in pairs])
+        info.close()
+        info.end()
+        files.append(library(info, [0x1000, 0x1010]))
+    return against(files[0], files[1])
+
+
+def versions_that_collide(count: int) -> Case:
+    """A new library with functions whose versions are all new and have names that collide in a set, with notes."""
+    names = bytearray(b"\0f\0")
+    places = []
+    for number in colliding(min(count, MOST_VERSIONS), folded(SEED, 8, 8), "names"):
+        places.append(len(names))
+        names += u64(number) + b"\0"
+    symbols = [Symbol(1, 0x1000 + 16 * number) for number in range(len(places))]
+    indexes = [0] + [number + 2 for number in range(len(places))]
+    new = image(symbol_sections(symbols, bytes(names)) + version_sections(indexes, places))
+    return noted(image(symbol_sections([], b"\0")), new)
+
+
 KINDS = [
     Kind("colliding_addresses", "n functions at addresses that collide in a map", addresses_that_collide, 30000),
     Kind("colliding_signatures", "n type units with signatures that collide in a map", signatures_that_collide, 30000),
@@ -145,4 +180,6 @@ KINDS = [
     Kind("colliding_codes", "n abbreviations with codes that collide in a map", codes_that_collide, 10000),
     Kind("colliding_names", "n symbols with names that collide in a map", names_that_collide, 30000),
     Kind("colliding_members", "a structure of n members with names that collide in a map", members_that_collide, 10000),
+    Kind("colliding_pairs", "a function of n parameters whose pairs of types collide in a set", pairs_that_collide, 20000),
+    Kind("colliding_versions", "n new versions with names that collide in a set, with notes", versions_that_collide, 16000),
 ]

@@ -9,9 +9,11 @@ from .dwarf import (
     AT_LOCATION,
     AT_NAME,
     AT_TYPE,
+    CONST_TYPE,
     DATA4,
     FLAG_PRESENT,
     FREE,
+    LEXICAL_BLOCK,
     MEMBER,
     PARAMETER,
     REF4,
@@ -29,7 +31,7 @@ from .layouts import grown
 from .library import addresses, library
 
 ADDRESS = 0x1000
-LONG_FIELD, LONG_PARAM, DEFINED, DECLARED, ONE_FIELD = range(FREE, FREE + 5)
+LONG_FIELD, LONG_PARAM, DEFINED, DECLARED, ONE_FIELD, BLOCK, QUALIFIED = range(FREE, FREE + 7)
 FURTHER = [
     Abbreviation(LONG_FIELD, MEMBER, False, ((AT_NAME, STRP), (AT_TYPE, REF4), (AT_LOCATION, DATA4))),
     Abbreviation(LONG_PARAM, PARAMETER, False, ((AT_NAME, STRP), (AT_TYPE, REF4))),
@@ -277,6 +279,61 @@ def affected_chains(count: int) -> Case:
     return noted(files[0], files[1])
 
 
+def blocks_beside_members(count: int) -> Case:
+    """Typedefs of a structure that has children, but no members. In the new library it has one child more."""
+    files = []
+    for step in (0, 1):
+        info = Info()
+        info.begin()
+        whole = info.add(STRUCT, u32(8))
+        info.bytes += u8(BLOCK) * (20 * count + step)
+        info.close()
+        info.function(ADDRESS, *[info.pointer(info.typedef(short_name(number), whole)) for number in range(count)])
+        info.close()
+        info.end()
+        files.append(library(info, [ADDRESS], [*FURTHER, Abbreviation(BLOCK, LEXICAL_BLOCK, False)]))
+    return noted(files[0], files[1])
+
+
+def noted_qualifiers(count: int) -> Case:
+    """Pointers to qualified types of a chain of 500 qualified types. The new library has one function more."""
+    files = []
+    for step in (0, 1):
+        info = Info()
+        info.begin()
+        inner = info.number()
+        for _ in range(500):
+            inner = info.add(QUALIFIED, u32(inner))
+        info.function(ADDRESS, *[info.pointer(info.add(QUALIFIED, u32(inner))) for _ in range(count)])
+        info.close()
+        info.end()
+        values = addresses(1 + step)
+        files.append(library(info, values, [*FURTHER, Abbreviation(QUALIFIED, CONST_TYPE, False, ((AT_TYPE, REF4),))]))
+    return noted(files[0], files[1])
+
+
+def exports_beside_rows(count: int) -> Case:
+    """A function whose parameters lead to structures of other sizes, a twentieth of `count`, and `count` exports at one other function.
+    Each row looks at all exports."""
+    rows = count // 20
+    values = [ADDRESS, *[ADDRESS + 16] * count]
+    files = []
+    for step in (0, 8):
+        info = Info()
+        info.begin()
+        pointers = []
+        for number in range(rows):
+            whole = info.add(STRUCT, u32(16 + step + 16 * number))
+            info.close()
+            pointers.append(info.pointer(whole))
+        info.function(ADDRESS, *pointers)
+        info.function(ADDRESS + 16)
+        info.close()
+        info.end()
+        files.append(library(info, values))
+    return noted(files[0], files[1])
+
+
 KINDS = [
     Kind("parameter_names", "a function of n parameters of one name of 20 n bytes, with notes", parameter_names, 500),
     Kind("long_definition", "a definition elsewhere of n members of one name of 20 n bytes, with notes", long_definition, 500),
@@ -295,4 +352,12 @@ KINDS = [
     Kind("renamed_ring", "rings of n and n + 1 typedefs of a structure with a name of 64 n bytes, with notes", renamed_ring, 20),
     Kind("affected", "n exports that lead to a break behind a member with a name of 20 n bytes, with notes", affected, 1000),
     Kind("affected_chains", "n exports that lead each to a break, with notes", affected_chains, 1000),
+    Kind(
+        "blocks_beside_members",
+        "n typedefs of a structure with 20 n children that are no members, with notes",
+        blocks_beside_members,
+        500,
+    ),
+    Kind("noted_qualifiers", "n pointers to qualified types of a chain of 500 qualified types, with notes", noted_qualifiers, 2000),
+    Kind("exports_beside_rows", "n / 20 rows on types, and n exports that lead to none of them, with notes", exports_beside_rows, 10000),
 ]

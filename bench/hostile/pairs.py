@@ -88,4 +88,5 @@ KINDS = [
     Kind("wide_rings", "rings of n and n + 1 structures with n members", wide_rings, 60),
     Kind("chain", "a chain of n pointers to structures, each of another size", chain, 2000),
     Kind("rings", "rings of n and n + 1 pointers", rings, 500),
+    Kind("long_rings", "the same, longer ones", rings, 5000),
 ]

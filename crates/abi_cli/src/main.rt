@@ -82,7 +82,7 @@ fn outcome_of<R: Files + Print + Eprint + AllocGlobal>(
     Ok(ended.outcome)
 }
 
-// Prints the notes on standard error. If that fails, the answer stands.
+// Prints the notes on standard error. If that fails, the answer does not change.
 fn tell<R: Files + Eprint + AllocGlobal>(rt: &R, words: &[&str], ended: &Ended<'_>) {
     let Ok(notes) = notes_of(rt, words, ended) else {
         return;
@@ -92,7 +92,7 @@ fn tell<R: Files + Eprint + AllocGlobal>(rt: &R, words: &[&str], ended: &Ended<'
     }
 }
 
-// Prints on standard error the differences that no rule judges. If that fails, the answer stands.
+// Prints on standard error the differences that no rule judges. If that fails, the answer does not change.
 fn tell_notes<R: Files + Eprint + AllocGlobal>(rt: &R, words: &[&str], ended: &Ended<'_>) {
     let Ok(bytes) = text_beside(rt, words, ended) else {
         return;

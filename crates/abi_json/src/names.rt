@@ -6,9 +6,9 @@ use abi_base::dwarf::{
     DW_AT_name, DW_AT_str_offsets_base, DW_AT_type, DW_TAG_base_type, DW_TAG_enumeration_type,
     DW_TAG_structure_type, DW_TAG_typedef, DW_TAG_union_type,
 };
-use dwarf_forms::{Sections, Value as Attribute};
+use dwarf_forms::{DebugInfoOffset, Sections, Value as Attribute};
 use dwarf_text::{Bases, text};
-use dwarf_tree::Tree;
+use dwarf_tree::{EntryNumber, Tree};
 use std::alloc::{AllocError, Global};
 use std::collections::HashMap;
 use std::str;
@@ -37,7 +37,7 @@ fn keyword(tag: u64) -> Option<&'static str> {
 }
 
 // The bases of the strings in an entry's unit.
-fn bases_of(tree: &Tree<'_>, e: usize) -> Bases
+fn bases_of(tree: &Tree<'_>, e: EntryNumber) -> Bases
     requires { e < length tree.now.entries }
 {
     tree.known();
@@ -55,7 +55,7 @@ fn bases_of(tree: &Tree<'_>, e: usize) -> Bases
 }
 
 // The name in an entry's own attributes.
-fn own_name<'a>(entries: &NamedEntries<'_, 'a>, e: usize) -> Option<&'a [u8]>
+fn own_name<'a>(entries: &NamedEntries<'_, 'a>, e: EntryNumber) -> Option<&'a [u8]>
     requires { e < length entries.now.tree.now.entries }
 {
     let tree = entries.tree;
@@ -73,12 +73,12 @@ fn own_name<'a>(entries: &NamedEntries<'_, 'a>, e: usize) -> Option<&'a [u8]>
 fn name_by_typedef<'a>(
     entries: &NamedEntries<'_, 'a>,
     typedefs: &Typedefs,
-    offset: u64,
+    offset: DebugInfoOffset,
 ) -> Option<&'a [u8]> {
-    let Some(typedef) = typedefs.get(&offset).copied() else {
+    let Some(typedef) = typedefs.get(&offset.get()).copied() else {
         return None;
     };
-    match entries.tree.find(typedef) {
+    match entries.tree.find(DebugInfoOffset::new(typedef)) {
         Some(e) => own_name(entries, e),
         None => None,
     }
@@ -93,7 +93,7 @@ fn written(alloc: Global, keyword: &str, name: &[u8]) -> Result<Option<String>, 
 }
 
 /// Whether only a typedef can name the entry at an offset: it is a structure, a union or an enumeration without a tag.
-pub(crate) fn lacks_tag(entries: &NamedEntries<'_, '_>, offset: u64) -> bool {
+pub(crate) fn lacks_tag(entries: &NamedEntries<'_, '_>, offset: DebugInfoOffset) -> bool {
     let Some(e) = entries.tree.find(offset) else {
         return false;
     };
@@ -106,7 +106,7 @@ pub(crate) fn type_name(
     alloc: Global,
     entries: &NamedEntries<'_, '_>,
     typedefs: &Typedefs,
-    offset: u64,
+    offset: DebugInfoOffset,
 ) -> Result<Option<String>, NoMemory> {
     let Some(e) = entries.tree.find(offset) else {
         return Ok(None);
@@ -124,17 +124,19 @@ pub(crate) fn type_name(
 }
 
 // Records an entry, if it is the first typedef of its type.
-fn keep_typedef(typedefs: &mut Typedefs, tree: &Tree<'_>, e: usize) -> Result<(), NoMemory>
+fn keep_typedef(typedefs: &mut Typedefs, tree: &Tree<'_>, e: EntryNumber) -> Result<(), NoMemory>
     requires { e < length tree.now.entries }
 {
     if tree.tag(e) != DW_TAG_typedef {
         return Ok(());
     }
-    let Some(Attribute::Reference(target)) = tree.own(e, DW_AT_type) else {
-        return Ok(());
+    let value = tree.own(e, DW_AT_type);
+    let target = match &value {
+        Some(Attribute::Reference(target)) => target.get(),
+        _ => return Ok(()),
     };
     if !typedefs.contains_key(&target) {
-        typedefs.insert(target, tree.offset(e))?;
+        typedefs.insert(target, tree.offset(e).get())?;
     }
     Ok(())
 }
@@ -142,8 +144,9 @@ fn keep_typedef(typedefs: &mut Typedefs, tree: &Tree<'_>, e: usize) -> Result<()
 /// The first typedef of each type, among all entries.
 pub(crate) fn typedefs_in(alloc: Global, tree: &Tree<'_>) -> Result<Typedefs, NoMemory> {
     let mut typedefs = HashMap::new(alloc);
+    tree.known();
     for e in 0..tree.len() {
-        keep_typedef(&mut typedefs, tree, e)?;
+        keep_typedef(&mut typedefs, tree, EntryNumber::new(e as u32))?;
     }
     Ok(typedefs)
 }

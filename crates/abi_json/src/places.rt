@@ -4,6 +4,7 @@ ghost use Rattle.abi_base.specs.Limits.{input_limit};
 
 use crate::names::{NamedEntries, Typedefs, lacks_tag, type_name, typedefs_in};
 use abi_base::NoMemory;
+use dwarf_forms::DebugInfoOffset;
 use elf::file::read_elf;
 use elf::sections::debug_sections;
 use entry_places::EntryPlaces;
@@ -32,7 +33,11 @@ impl TypeFacts {
 }
 
 // The object of a source position, or null.
-fn place_value(alloc: Global, places: &EntryPlaces<'_>, offset: u64) -> Result<Value, NoMemory> {
+fn place_value(
+    alloc: Global,
+    places: &EntryPlaces<'_>,
+    offset: DebugInfoOffset,
+) -> Result<Value, NoMemory> {
     let Some(place) = places.place_of(alloc, offset)? else {
         return Ok(Value::Null);
     };
@@ -47,12 +52,13 @@ fn put_place(
     alloc: Global,
     map: &mut Map<String, Value>,
     places: &EntryPlaces<'_>,
-    offset: u64,
+    offset: DebugInfoOffset,
 ) -> Result<(), NoMemory> {
     let place = place_value(alloc, places, offset)?;
     if place.is_null() {
         return Ok(());
     }
+    let offset = offset.get();
     let key = format!(in alloc; "{offset}")?;
     Ok(put(map, alloc, key.as_str(), place)?)
 }
@@ -63,24 +69,29 @@ fn put_name(
     map: &mut Map<String, Value>,
     entries: &NamedEntries<'_, '_>,
     typedefs: &Typedefs,
-    offset: u64,
+    offset: DebugInfoOffset,
 ) -> Result<(), NoMemory> {
     let Some(name) = type_name(alloc, entries, typedefs, offset)? else {
         return Ok(());
     };
+    let offset = offset.get();
     let key = format!(in alloc; "{offset}")?;
     let name = Value::try_from_str(alloc, name.as_str())?;
     Ok(put(map, alloc, key.as_str(), name)?)
 }
 
 // The entries in a member of the breaks, each once.
-fn entries_of(alloc: Global, breaks: &[Value], word: &str) -> Result<Vec<u64>, NoMemory> {
+fn entries_of(
+    alloc: Global,
+    breaks: &[Value],
+    word: &str,
+) -> Result<Vec<DebugInfoOffset>, NoMemory> {
     let mut known: HashSet<u64> = HashSet::new(alloc);
     let mut offsets = Vec::new(alloc);
     for row in breaks {
         if let Some(offset) = row.get(word).and_then(Value::as_u64) {
             if known.insert(offset)? {
-                offsets.push(offset)?;
+                offsets.push(DebugInfoOffset::new(offset))?;
             }
         }
     }
@@ -91,7 +102,7 @@ fn entries_of(alloc: Global, breaks: &[Value], word: &str) -> Result<Vec<u64>, N
 fn wanted_typedefs(
     alloc: Global,
     entries: &NamedEntries<'_, '_>,
-    offsets: &[u64],
+    offsets: &[DebugInfoOffset],
 ) -> Result<Typedefs, NoMemory> {
     for offset in offsets {
         if lacks_tag(entries, *offset) {
@@ -107,7 +118,7 @@ fn put_all(
     facts: &mut TypeFacts,
     places: &EntryPlaces<'_>,
     entries: &NamedEntries<'_, '_>,
-    offsets: &[u64],
+    offsets: &[DebugInfoOffset],
 ) -> Result<(), NoMemory> {
     let typedefs = wanted_typedefs(alloc, entries, offsets)?;
     for offset in offsets {

@@ -20,7 +20,7 @@ use std::alloc::Global;
 /// `app` for an application and two libraries, with an optional rule file. On no, the listeners of its style hear all breaks.
 #[derive(Clone, Copy)]
 pub struct App<'a> {
-    /// What the arguments ask.
+    /// What the arguments request.
     pub words: AppWords<'a>,
 }
 

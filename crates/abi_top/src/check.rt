@@ -23,7 +23,7 @@ use std::alloc::Global;
 /// `check` of two libraries, with an optional rule file. On no, the listeners of its style hear all breaks.
 #[derive(Clone, Copy)]
 pub struct Check<'a> {
-    /// What the arguments ask.
+    /// What the arguments request.
     pub words: CheckWords<'a>,
 }
 

@@ -17,7 +17,7 @@ use std::alloc::Global;
 /// `compose` of two certificates: one for the first and the middle library, one for the middle and the last.
 #[derive(Clone, Copy)]
 pub struct Compose<'a> {
-    /// What the arguments ask.
+    /// What the arguments request.
     pub words: ComposeWords<'a>,
 }
 

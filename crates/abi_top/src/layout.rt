@@ -16,7 +16,7 @@ use std::alloc::Global;
 /// `layout` of the structure with a tag in a library.
 #[derive(Clone, Copy)]
 pub struct Layout<'a> {
-    /// What the arguments ask.
+    /// What the arguments request.
     pub words: LayoutWords<'a>,
 }
 

@@ -17,7 +17,7 @@ use std::alloc::Global;
 /// `migrate` of a certificate of version 1 for two libraries, with an optional rule file.
 #[derive(Clone, Copy)]
 pub struct Migrate<'a> {
-    /// What the arguments ask.
+    /// What the arguments request.
     pub words: CertificateWords<'a>,
 }
 

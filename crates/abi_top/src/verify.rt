@@ -17,7 +17,7 @@ use std::alloc::Global;
 /// `verify` of a certificate for two libraries, with an optional rule file.
 #[derive(Clone, Copy)]
 pub struct Verify<'a> {
-    /// What the arguments ask.
+    /// What the arguments request.
     pub words: CertificateWords<'a>,
 }
 

@@ -26,8 +26,8 @@ pub struct Links<'a> {
     pub lacking: Vec<&'a [u8]>,
 }
 
-// Whether this text stands at an offset. The end of the text is searched for only where it can be: many entries may share one long
-// name, and a search from each would take too long.
+// Whether this text is at an offset. Its end is looked for in one place only: many entries may share one long name, and a search
+// from each would take too long.
 fn is_text_at(strings: &[u8], at: u64, text: &[u8]) -> bool {
     match strings.get((at as usize).saturating_add(text.len())) {
         Some(0) => text_at(strings, at) == Some(text),

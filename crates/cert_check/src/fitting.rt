@@ -27,9 +27,9 @@ fn take_line(
     budget.take(view_of(old, before), view_of(new, now))
 }
 
-/// Whether the types of a certificate's pair lines have few enough parts to be compared. A certificate may pair each of many typedefs
-/// of one structure with each of many others, so its lines can ask for far more work than it has bytes. The limit is that of an
-/// exploration, so each certificate that an exploration gives is within it. It fails only by naming that limit.
+/// Fails if the types of a certificate's pair lines have too many parts to be compared, and names that limit. A certificate may
+/// pair each of many typedefs of one structure with each of many others, so its lines can take far more work than it has bytes. The
+/// limit is that of an exploration, so each certificate that an exploration gives is within it.
 pub fn pairs_fit(old: &Library<OldIx>, new: &Library<NewIx>, cert: &Cert) -> Result<(), NoMemory>
     ensures named { IfErr result (λ e. e ≡ Past PairParts) }
 {

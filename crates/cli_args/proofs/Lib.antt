@@ -1,6 +1,8 @@
 mod OneKind
 mod LineLemmas
 mod HelpAlone
+mod CalmWalks
+mod HelpKinds
 mod HelpWords
 mod Samples
 mod Judging

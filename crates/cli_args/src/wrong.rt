@@ -55,7 +55,7 @@ pub enum WrongWords<'a> {
 }
 
 /// What is wrong with the arguments after the program's name, and which argument it is. It is `None` exactly if they form a request
-/// or ask for the help. It fails only if memory runs out.
+/// or the help. It fails only if memory runs out.
 pub fn wrong_words<'a>(
     alloc: Global,
     words: &'a [&'a str],

@@ -24,9 +24,9 @@ pub struct Judgement {
     pub text: Vec<u8>,
 }
 
-/// A command: the inputs that it wants, and what it says about their bytes.
+/// A command: the inputs that it needs, and what it says about their bytes.
 pub trait Command: Drop {
-    /// The inputs that it wants, in the order in which they are read, each with the faults for which the command checks.
+    /// The inputs that it needs, in the order in which they are read, each with the faults for which the command checks.
     ghost inputs: { Self → List Wanted };
 
     /// What it may say about the bytes of its inputs, if none has a fault, to listeners with these voices.

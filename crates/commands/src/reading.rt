@@ -40,7 +40,7 @@ fn read_one<I: Inputs>(alloc: Global, inputs: &mut I, place: &Place<'_>) -> Resu
     }
 }
 
-/// The bytes of all inputs, or why the first one that cannot be read whole cannot be.
+/// The bytes of all inputs; or, for the first one that cannot be read whole, the reason.
 pub(crate) fn read_all<I: Inputs>(
     alloc: Global,
     inputs: &mut I,

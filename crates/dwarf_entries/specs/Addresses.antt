@@ -2,7 +2,8 @@
 -- Address" and 2.6 "Location Descriptions"), and entries by address.
 use Rattle.std.specs.Prelude.{ℕ, suc, ◌+◌, ◌-◌, ◌%◌, ◌^◌, ◌==◌, ◌&&◌, ◌||◌, not, Bool, false, if◌then◌else◌, List, length, take, drop, find, slice_index_or, Option, Some, None, Result, Ok, Err, pos, negsuc}
 use Rattle.std.specs.List.{range_with_len}
-use Rattle.abi_base.specs.Dwarf.{dwarf_4, dw_op_addr, dw_op_addrx, dw_tag_subprogram, dw_tag_variable, dw_at_location, dw_at_low_pc, dw_at_declaration, dw_at_entry_pc, dw_at_ranges}
+use Rattle.abi_base.specs.Dwarf.{dw_op_addr, dw_op_addrx, dw_tag_subprogram, dw_tag_variable, dw_at_location, dw_at_low_pc, dw_at_declaration, dw_at_entry_pc, dw_at_ranges}
+use Rattle.dwarf_units.specs.HeaderLayout.{dwarf_4}
 use Rattle.abi_base.specs.declared.fault.Fault.{Fault}
 use Rattle.abi_base.specs.Leb.{uleb_at}
 use Rattle.abi_base.specs.Numbers.{number}

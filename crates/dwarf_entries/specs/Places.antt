@@ -1,4 +1,4 @@
--- Maps from numbers to the first position of each.
+-- Maps from numbers to the first place of each.
 use Rattle.std.specs.Prelude.{◌≡◌, ℕ, Option, position}
 use Rattle.std.specs.BTreeMap.{BTreeMap, get}
 use Rattle.std.specs.Ordering.{nat_cmp}
@@ -10,7 +10,7 @@ use Rattle.dwarf_entries.specs.Addresses.{typed_of}
 abbrev pub Places : Type 0
 Places = BTreeMap ℕ ℕ
 
-abbrev pub place_under : Places → ℕ → Option ℕ
+abbrev pub place_under : {P : Type 0} → BTreeMap ℕ P → ℕ → Option P
 place_under places number = get nat_cmp places number
 
 -- The map has the first unit with each signature.

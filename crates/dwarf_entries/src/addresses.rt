@@ -16,13 +16,13 @@ use abi_base::dwarf::{
 use abi_base::{Fault, u64_in, uleb};
 use dwarf_forms::Value;
 use dwarf_text::ranges::{ListAt, first_address};
-use dwarf_tree::Tree;
+use dwarf_tree::{EntryNumber, Tree};
 use dwarf_units::constants::DWARF_4;
 
 // The address of a value of an entry, if there is a value.
 pub(crate) fn address_where_there(
     source: &Source,
-    e: usize,
+    e: EntryNumber,
     value: Option<Value>,
 ) -> Result<Option<u64>, Fault>
     requires { e < length source.now.tree.entries }
@@ -39,7 +39,7 @@ pub(crate) fn address_where_there(
 
 // The address of an entry's `DW_AT_low_pc`.
 #[tactic(auto, unfolding(crate::specs::Addresses::low_pc_of))]
-pub(crate) fn low_pc(source: &Source, e: usize) -> Result<Option<u64>, Fault>
+pub(crate) fn low_pc(source: &Source, e: EntryNumber) -> Result<Option<u64>, Fault>
     requires { e < length source.now.tree.entries }
     ensures { result ≡ low_pc_of source.now e }
 {
@@ -65,7 +65,7 @@ pub(crate) fn list_of(version: u16, value: Option<Value>) -> Option<ListAt>
 
 // The start of the first range of an entry's list.
 #[tactic(auto, unfolding(crate::specs::UnitContext::told_of))]
-fn first_of_list(source: &Source, e: usize, list: ListAt) -> Result<Option<u64>, Fault>
+fn first_of_list(source: &Source, e: EntryNumber, list: ListAt) -> Result<Option<u64>, Fault>
     requires { e < length source.now.tree.entries }
     ensures { result ≡ spec.first_of_list source.now e (Some list) }
 {
@@ -80,7 +80,7 @@ fn first_of_list(source: &Source, e: usize, list: ListAt) -> Result<Option<u64>,
 
 // The start of the first range of an entry's `DW_AT_ranges`.
 #[tactic(auto, unfolding(crate::specs::Addresses::first_range_of))]
-pub(crate) fn first_range(source: &Source, e: usize) -> Result<Option<u64>, Fault>
+pub(crate) fn first_range(source: &Source, e: EntryNumber) -> Result<Option<u64>, Fault>
     requires { e < length source.now.tree.entries }
     ensures { result ≡ first_range_of source.now e }
 {
@@ -91,7 +91,7 @@ pub(crate) fn first_range(source: &Source, e: usize) -> Result<Option<u64>, Faul
 }
 
 // The base address of an entry.
-fn base_address(source: &Source, e: usize) -> Result<Option<u64>, Fault>
+fn base_address(source: &Source, e: EntryNumber) -> Result<Option<u64>, Fault>
     requires { e < length source.now.tree.entries }
     ensures { result ≡ base_address_of source.now e }
 {
@@ -103,7 +103,7 @@ fn base_address(source: &Source, e: usize) -> Result<Option<u64>, Fault>
 }
 
 // The address at an offset from an entry's base address.
-fn behind_base(source: &Source, e: usize, distance: u64) -> Result<Option<u64>, Fault>
+fn behind_base(source: &Source, e: EntryNumber, distance: u64) -> Result<Option<u64>, Fault>
     requires { e < length source.now.tree.entries }
     ensures { result ≡ moved_by distance (2 ^ 64) (base_address_of source.now e) }
 {
@@ -114,7 +114,7 @@ fn behind_base(source: &Source, e: usize, distance: u64) -> Result<Option<u64>, 
 }
 
 // The entry address of a function, from its `DW_AT_entry_pc`.
-fn entry_by(source: &Source, e: usize, entry_pc: Option<Value>) -> Result<Option<u64>, Fault>
+fn entry_by(source: &Source, e: EntryNumber, entry_pc: Option<Value>) -> Result<Option<u64>, Fault>
     requires { e < length source.now.tree.entries }
     ensures { result ≡ entered_at source.now e entry_pc }
 {
@@ -188,7 +188,7 @@ fn location(info: &[u8], value: Option<Value>) -> Option<Value>
 
 // The address of a variable.
 #[tactic(auto, unfolding(crate::specs::Addresses::variable_address_of))]
-pub(crate) fn variable_address(source: &Source, e: usize) -> Result<Option<u64>, Fault>
+pub(crate) fn variable_address(source: &Source, e: EntryNumber) -> Result<Option<u64>, Fault>
     requires { e < length source.now.tree.entries }
     ensures { result ≡ variable_address_of source.now e }
 {
@@ -198,7 +198,7 @@ pub(crate) fn variable_address(source: &Source, e: usize) -> Result<Option<u64>,
 
 // The address of a function's entry point or of a variable.
 #[tactic(auto, unfolding(crate::specs::Addresses::address_of_entry))]
-fn address(source: &Source, e: usize) -> Result<Option<u64>, Fault>
+fn address(source: &Source, e: EntryNumber) -> Result<Option<u64>, Fault>
     requires { e < length source.now.tree.entries }
     ensures { result ≡ address_of_entry source.now e }
 {
@@ -213,7 +213,7 @@ fn address(source: &Source, e: usize) -> Result<Option<u64>, Fault>
 }
 
 // The same, or None where it has a fault.
-pub(crate) fn entry_address(source: &Source, e: usize) -> Option<u64>
+pub(crate) fn entry_address(source: &Source, e: EntryNumber) -> Option<u64>
     requires { e < length source.now.tree.entries }
     ensures { result ≡ entry_address_of source.now e }
 {
@@ -234,7 +234,7 @@ pub(crate) fn is_true(value: Option<Value>) -> bool
 }
 
 // Whether an entry itself has a flag that marks it as a declaration.
-pub(crate) fn is_declared_only(tree: &Tree<'_>, e: usize) -> bool
+pub(crate) fn is_declared_only(tree: &Tree<'_>, e: EntryNumber) -> bool
     requires { e < length tree.now.entries }
     ensures { result ≡ only_declares tree.now e }
 {
@@ -243,7 +243,7 @@ pub(crate) fn is_declared_only(tree: &Tree<'_>, e: usize) -> bool
 
 // Whether an entry is a function or a variable directly in its unit, and is not a declaration.
 #[tactic(auto, unfolding(crate::specs::Addresses::is_defined))]
-pub(crate) fn is_defined(tree: &Tree<'_>, e: usize) -> bool
+pub(crate) fn is_defined(tree: &Tree<'_>, e: EntryNumber) -> bool
     requires { e < length tree.now.entries }
     ensures { result ≡ defines tree.now e }
 {

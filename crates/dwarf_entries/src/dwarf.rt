@@ -19,20 +19,20 @@ use crate::range_effort::spend_for_ranges;
 use crate::source::Source;
 use crate::typed::entries_by_address;
 use abi_base::{NoMemory, Refusal};
-use dwarf_forms::{Sections, Value};
+use dwarf_forms::{DebugInfoOffset, Sections, Value};
 use dwarf_tree::laws::children_stand_one_deeper;
-use dwarf_tree::read_tree;
+use dwarf_tree::{EntryNumber, read_tree};
 use std::alloc::Global;
 use std::collections::BTreeMap;
 use std::marker::Model;
 
-/// The debug information of a file, in which no entry has a fault. Contracts see it as a `PlainDwarf`. A position numbers the
-/// entries from 0, and is below `len`.
+/// The debug information of a file, in which no entry has a fault. Contracts see it as a `PlainDwarf`. The numbers
+/// of its entries are those below `len`.
 #[derive(Drop)]
 pub struct Dwarf<'a> {
     source: Source<'a>,
     // the first entry at each address
-    typed: BTreeMap<u64, usize>,
+    typed: BTreeMap<u64, EntryNumber>,
 }
 
 impl<'a> Model for Dwarf<'a> {
@@ -77,7 +77,7 @@ impl<'a> Dwarf<'a> {
     }
 
     /// The offset of an entry in `.debug_info`.
-    pub fn offset(&self, e: usize) -> u64
+    pub fn offset(&self, e: EntryNumber) -> DebugInfoOffset
         requires { e < length self.now.tree.entries }
         ensures { result ≡ (entry_at self.now.tree e).offset }
     {
@@ -85,15 +85,15 @@ impl<'a> Dwarf<'a> {
     }
 
     /// The tag of an entry, `DW_TAG_..`.
-    pub fn tag(&self, e: usize) -> u64
+    pub fn tag(&self, e: EntryNumber) -> u64
         requires { e < length self.now.tree.entries }
         ensures { result ≡ (entry_at self.now.tree e).tag }
     {
         self.source.tree().tag(e)
     }
 
-    /// The first child of an entry, or the first one after a position. None exactly where there is no other.
-    pub fn next_child(&self, e: usize, after: Option<usize>) -> Option<usize>
+    /// The first child of an entry, or the first one after an entry. None exactly where there is no other.
+    pub fn next_child(&self, e: EntryNumber, after: Option<EntryNumber>) -> Option<EntryNumber>
         requires { e < length self.now.tree.entries }
         ensures next { result ≡ next_child_of self.now.tree e after }
         ensures child { IfSome result (λ next. Contains (children_of self.now.tree e) next) }
@@ -104,7 +104,12 @@ impl<'a> Dwarf<'a> {
     }
 
     /// The children of an entry with a tag, in order.
-    pub fn tagged(&self, alloc: Global, e: usize, tag: u64) -> Result<Vec<usize>, NoMemory>
+    pub fn tagged(
+        &self,
+        alloc: Global,
+        e: EntryNumber,
+        tag: u64,
+    ) -> Result<Vec<EntryNumber>, NoMemory>
         requires { e < length self.now.tree.entries }
         ensures children { IfOk result (λ list. list.items ≡ filter (is_tagged self.now.tree tag) (children_of self.now.tree e)) }
         ensures inside { IfOk result (λ list. All (λ child. child < length self.now.tree.entries) list.items) }
@@ -125,15 +130,15 @@ impl<'a> Dwarf<'a> {
     }
 
     /// The first value of an attribute of an entry itself, or None where it has none.
-    pub fn own(&self, e: usize, name: u64) -> Option<Value>
+    pub fn own(&self, e: EntryNumber, name: u64) -> Option<Value>
         requires { e < length self.now.tree.entries }
         ensures { result ≡ own_of self.now.tree e name }
     {
         self.source.tree().own(e, name)
     }
 
-    /// The position of the entry at an offset. None exactly where no entry begins there.
-    pub fn find(&self, offset: u64) -> Option<usize>
+    /// The entry at an offset. None exactly where no entry begins there.
+    pub fn find(&self, offset: DebugInfoOffset) -> Option<EntryNumber>
         ensures found { result ≡ entry_of self.now.tree offset }
         ensures inside { IfSome result (λ e. e < length self.now.tree.entries) }
     {
@@ -142,7 +147,7 @@ impl<'a> Dwarf<'a> {
 
     /// The entry to which a value refers: the one at its offset, or the type entry of the first type unit with its signature. None
     /// exactly where there is no such entry, and where the value is not a reference.
-    pub fn target(&self, value: &Value) -> Option<usize>
+    pub fn target(&self, value: &Value) -> Option<EntryNumber>
         ensures found { result ≡ target_of self.now.tree value.now }
         ensures inside { IfSome result (λ e. e < length self.now.tree.entries) }
     {
@@ -153,7 +158,7 @@ impl<'a> Dwarf<'a> {
     /// `DW_AT_abstract_origin`, or else `DW_AT_specification`. `DW_AT_low_pc`, `DW_AT_ranges`, `DW_AT_entry_pc`,
     /// `DW_AT_location` and `DW_AT_declaration` apply to the entry itself, and are not inherited.
     #[inline(always)]
-    pub fn attr(&self, e: usize, name: u64) -> Option<Value>
+    pub fn attr(&self, e: EntryNumber, name: u64) -> Option<Value>
         requires { e < length self.now.tree.entries }
         ensures { result ≡ attribute_along self.now.tree e name }
     {
@@ -162,7 +167,7 @@ impl<'a> Dwarf<'a> {
 
     /// The entry to which the value of an attribute refers: `target` of `attr`, but faster. None exactly where there is no such
     /// value, or it refers to no entry.
-    pub fn attr_target(&self, e: usize, name: u64) -> Option<usize>
+    pub fn attr_target(&self, e: EntryNumber, name: u64) -> Option<EntryNumber>
         requires { e < length self.now.tree.entries }
         ensures found { result ≡ option_map_or (target_of self.now.tree) (attribute_along self.now.tree e name) None }
         ensures inside { IfSome result (λ f. f < length self.now.tree.entries) }
@@ -171,7 +176,7 @@ impl<'a> Dwarf<'a> {
     }
 
     /// Whether an entry has a flag that is set, its own or inherited. A value of another class does not count.
-    pub fn flag_value(&self, e: usize, name: u64) -> bool
+    pub fn flag_value(&self, e: EntryNumber, name: u64) -> bool
         requires { e < length self.now.tree.entries }
         ensures { result ≡ flag_value_along self.now.tree e name }
     {
@@ -179,7 +184,7 @@ impl<'a> Dwarf<'a> {
     }
 
     /// Whether an entry itself has a flag that marks it as a declaration. A value of another class does not count.
-    pub fn is_declaration(&self, e: usize) -> bool
+    pub fn is_declaration(&self, e: EntryNumber) -> bool
         requires { e < length self.now.tree.entries }
         ensures { result ≡ only_declares self.now.tree e }
     {
@@ -197,7 +202,7 @@ impl<'a> Dwarf<'a> {
     }
 
     /// The last entry of an entry's chain, which is the entry itself where it has no links.
-    pub fn origin(&self, e: usize) -> usize
+    pub fn origin(&self, e: EntryNumber) -> EntryNumber
         requires { e < length self.now.tree.entries }
         ensures found { result ≡ origin_of self.now.tree e }
         ensures inside { result < length self.now.tree.entries }
@@ -207,7 +212,7 @@ impl<'a> Dwarf<'a> {
 
     /// The name of an entry, its own or inherited, as bytes of the file without the 0 byte. None exactly where no entry of the
     /// chain has a name, or the first name is not a string and belongs to an entry with an unsupported tag.
-    pub fn name_of(&self, e: usize) -> Option<&'a [u8]>
+    pub fn name_of(&self, e: EntryNumber) -> Option<&'a [u8]>
         requires { e < length self.now.tree.entries }
         ensures { option_copied result ≡ spec.name_of self.now e }
     {
@@ -216,7 +221,7 @@ impl<'a> Dwarf<'a> {
 
     /// The address of a function's entry point or of a variable, from the attributes of the entry itself. None exactly where they
     /// give no address or have a fault.
-    pub fn entry_address(&self, e: usize) -> Option<u64>
+    pub fn entry_address(&self, e: EntryNumber) -> Option<u64>
         requires { e < length self.now.tree.entries }
         ensures { result ≡ entry_address_of self.now e }
     {
@@ -232,7 +237,7 @@ impl<'a> Dwarf<'a> {
 
     /// The first entry at an address: a function or a variable directly in its unit, not a declaration, in a unit that is not
     /// written in assembler.
-    pub fn typed(&self, address: u64) -> Option<usize>
+    pub fn typed(&self, address: u64) -> Option<EntryNumber>
         ensures found { result ≡ typed_of self.now address }
         ensures inside { IfSome result (λ e. e < length self.now.tree.entries) }
     {
@@ -240,7 +245,7 @@ impl<'a> Dwarf<'a> {
     }
 
     /// The type entry of the first type unit with a signature. None exactly where no unit has it.
-    pub fn by_signature(&self, signature: u64) -> Option<usize>
+    pub fn by_signature(&self, signature: u64) -> Option<EntryNumber>
         ensures found { result ≡ signed_of self.now.tree signature }
         ensures inside { IfSome result (λ e. e < length self.now.tree.entries) }
     {

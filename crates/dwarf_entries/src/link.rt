@@ -2,6 +2,8 @@
 ghost use Rattle.std.specs.Prelude.{◌≡◌};
 ghost use Rattle.dwarf_entries.specs.Chains.{either_link, is_nowhere as leads_nowhere, linked};
 
+use dwarf_tree::EntryNumber;
+
 // The link that an attribute of an entry makes.
 #[derive(Clone, Copy)]
 pub(crate) enum Link {
@@ -10,12 +12,12 @@ pub(crate) enum Link {
     // The link refers to no entry.
     Nowhere,
     // The link refers to this entry.
-    To(usize),
+    To(EntryNumber),
 }
 
 impl Link {
     // The entry of the link.
-    pub(crate) fn entry(self) -> Option<usize>
+    pub(crate) fn entry(self) -> Option<EntryNumber>
         ensures { result ≡ linked self }
     {
         match self {
@@ -26,7 +28,7 @@ impl Link {
     }
 
     // The entry of this link, or of another where this one is missing.
-    pub(crate) fn entry_or(self, other: Link) -> Option<usize>
+    pub(crate) fn entry_or(self, other: Link) -> Option<EntryNumber>
         ensures { result ≡ either_link self other }
     {
         match self {
@@ -37,9 +39,9 @@ impl Link {
     }
 
     // Whether there is a link that refers to no entry.
-    pub(crate) fn is_nowhere(self) -> bool
-        ensures { result ≡ leads_nowhere self }
+    pub(crate) fn is_nowhere(&self) -> bool
+        ensures { result ≡ leads_nowhere self.now }
     {
-        matches!(self, Link::Nowhere)
+        matches!(*self, Link::Nowhere)
     }
 }

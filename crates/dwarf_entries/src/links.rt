@@ -15,7 +15,7 @@ use crate::tags::is_read_tag;
 use abi_base::NoMemory;
 use abi_base::dwarf::{DW_AT_abstract_origin, DW_AT_specification};
 use dwarf_forms::Value;
-use dwarf_tree::Tree;
+use dwarf_tree::{EntryNumber, Tree};
 use std::alloc::Global;
 use std::collections::BTreeMap;
 use std::marker::Model;
@@ -56,7 +56,7 @@ impl<'a> Links<'a> {
     }
 
     // The first value of an attribute of an entry itself.
-    pub(crate) fn own(&self, e: usize, name: u64) -> Option<Value>
+    pub(crate) fn own(&self, e: EntryNumber, name: u64) -> Option<Value>
         requires { e < length self.now.entries }
         ensures { result ≡ own_of self.now e name }
     {
@@ -64,7 +64,7 @@ impl<'a> Links<'a> {
     }
 
     // The type entry of the type unit with a signature.
-    pub(crate) fn by_signature(&self, signature: u64) -> Option<usize>
+    pub(crate) fn by_signature(&self, signature: u64) -> Option<EntryNumber>
         ensures found { result ≡ signed_of self.now signature }
         ensures inside { IfSome result (λ e. e < length self.now.entries) }
     {
@@ -75,7 +75,7 @@ impl<'a> Links<'a> {
     }
 
     // The entry to which a value refers.
-    pub(crate) fn target(&self, value: &Value) -> Option<usize>
+    pub(crate) fn target(&self, value: &Value) -> Option<EntryNumber>
         ensures found { result ≡ target_of self.now value.now }
         ensures inside { IfSome result (λ e. e < length self.now.entries) }
     {
@@ -88,7 +88,7 @@ impl<'a> Links<'a> {
 
     // The link that an attribute makes, to an entry or nowhere.
     #[inline(always)]
-    fn link_to(&self, target: Option<usize>) -> Link
+    fn link_to(&self, target: Option<EntryNumber>) -> Link
         requires { IfSome target (λ f. f < length self.now.entries) }
         ensures found { result ≡ spec.link_to self.now target }
         ensures inside { IfSome (linked result) (λ f. f < length self.now.entries) }
@@ -107,7 +107,7 @@ impl<'a> Links<'a> {
 
     // The link that an attribute of an entry makes. The entry may have the attribute.
     #[inline(never)]
-    fn read_link(&self, e: usize, name: u64) -> Link
+    fn read_link(&self, e: EntryNumber, name: u64) -> Link
         requires { e < length self.now.entries }
         ensures found { result ≡ spec.link_by self.now e name }
         ensures inside { IfSome (linked result) (λ f. f < length self.now.entries) }
@@ -123,7 +123,7 @@ impl<'a> Links<'a> {
 
     // The link that an attribute of an entry makes. Inlined into its callers, since most entries lack the attribute.
     #[inline(always)]
-    pub(crate) fn link_by(&self, e: usize, name: u64) -> Link
+    pub(crate) fn link_by(&self, e: EntryNumber, name: u64) -> Link
         requires { e < length self.now.entries }
         ensures found { result ≡ spec.link_by self.now e name }
         ensures inside { IfSome (linked result) (λ f. f < length self.now.entries) }
@@ -138,7 +138,7 @@ impl<'a> Links<'a> {
     // The next entry of the chain.
     #[inline(always)]
     #[tactic(auto, unfolding(crate::specs::Chains::link_of))]
-    fn link(&self, e: usize) -> Option<usize>
+    fn link(&self, e: EntryNumber) -> Option<EntryNumber>
         requires { e < length self.now.entries }
         ensures found { result ≡ link_of self.now e }
         ensures inside { IfSome result (λ f. f < length self.now.entries) }
@@ -151,7 +151,7 @@ impl<'a> Links<'a> {
     }
 
     // Whether an entry has a next entry after this many links.
-    fn leads_on(&self, e: usize, links: usize) -> bool
+    fn leads_on(&self, e: EntryNumber, links: usize) -> bool
         requires { e < length self.now.entries }
         ensures { result ≡ is_some (after_links self.now e links) }
     {
@@ -178,7 +178,7 @@ impl<'a> Links<'a> {
     }
 
     // The last entry of the chain.
-    pub(crate) fn origin(&self, e: usize) -> usize
+    pub(crate) fn origin(&self, e: EntryNumber) -> EntryNumber
         requires { e < length self.now.entries }
         ensures found { result ≡ origin_of self.now e }
         ensures inside { result < length self.now.entries }
@@ -195,7 +195,7 @@ impl<'a> Links<'a> {
 
     // The first of this many entries of the chain that has an attribute, and its value.
     #[inline(never)]
-    fn held_within(&self, e: usize, entries: usize, name: u64) -> Option<(usize, Value)>
+    fn held_within(&self, e: EntryNumber, entries: usize, name: u64) -> Option<(EntryNumber, Value)>
         requires { e < length self.now.entries }
         ensures holder { option_map (λ held. held.0) result ≡ find (λ f. is_some (own_of self.now f name)) (chain_within self.now e entries) }
         ensures value { IfSome result (λ held. own_of self.now held.0 name ≡ Some held.1) }
@@ -217,7 +217,7 @@ impl<'a> Links<'a> {
     // The first entry of the chain that has an attribute, and its value, where the entry itself lacks the attribute. Inlined into
     // its callers, since most entries have no link.
     #[inline(always)]
-    fn held_behind(&self, e: usize, name: u64) -> Option<(usize, Value)>
+    fn held_behind(&self, e: EntryNumber, name: u64) -> Option<(EntryNumber, Value)>
         requires inside { e < length self.now.entries }
         requires lacks { own_of self.now e name ≡ None }
         ensures holder { option_map (λ held. held.0) result ≡ holder_of self.now e name }
@@ -232,7 +232,7 @@ impl<'a> Links<'a> {
 
     // The first entry of the chain that has an attribute, and its value.
     #[tactic(auto, using(crate::proofs::ChainLemmas::holder_here))]
-    pub(crate) fn held(&self, e: usize, name: u64) -> Option<(usize, Value)>
+    pub(crate) fn held(&self, e: EntryNumber, name: u64) -> Option<(EntryNumber, Value)>
         requires { e < length self.now.entries }
         ensures holder { option_map (λ held. held.0) result ≡ holder_of self.now e name }
         ensures value { IfSome result (λ held. own_of self.now held.0 name ≡ Some held.1) }
@@ -247,7 +247,7 @@ impl<'a> Links<'a> {
     // The value of an attribute of an entry: its own if the attribute is not inherited, else that of the chain.
     #[inline(always)]
     #[tactic(auto, using(crate::proofs::ChainLemmas::along_here))]
-    pub(crate) fn attr(&self, e: usize, name: u64) -> Option<Value>
+    pub(crate) fn attr(&self, e: EntryNumber, name: u64) -> Option<Value>
         requires { e < length self.now.entries }
         ensures { result ≡ attribute_along self.now e name }
     {
@@ -265,7 +265,7 @@ impl<'a> Links<'a> {
 
     // The entry to which the value of an attribute refers, where the value is that of `attr`.
     #[tactic(auto, using(crate::proofs::ChainLemmas::along_here))]
-    pub(crate) fn attr_target(&self, e: usize, name: u64) -> Option<usize>
+    pub(crate) fn attr_target(&self, e: EntryNumber, name: u64) -> Option<EntryNumber>
         requires { e < length self.now.entries }
         ensures found { result ≡ option_map_or (target_of self.now) (attribute_along self.now e name) None }
         ensures inside { IfSome result (λ f. f < length self.now.entries) }

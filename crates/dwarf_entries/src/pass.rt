@@ -23,7 +23,7 @@ use abi_base::dwarf::{
 };
 use abi_base::{Fault, FaultKind};
 use dwarf_forms::Value;
-use dwarf_tree::Tree;
+use dwarf_tree::{EntryNumber, Tree};
 
 // The first fault of each kind that addresses can have.
 #[derive(Clone, Copy)]
@@ -62,18 +62,18 @@ fn of_kind(kind: FaultKind, fault: Option<Fault>) -> Option<Fault>
 // follows. The call only saves time: `name_fault` answers in all cases.
 #[inline(always)]
 #[tactic(auto, using(crate::proofs::TextLemmas::short_sound))]
-fn has_short_name(source: &Source, e: usize) -> bool
+fn has_short_name(source: &Source, e: EntryNumber) -> bool
     requires { e < length source.now.tree.entries }
     ensures { result ≡ true → fault_of_name source.now e ≡ None }
 {
     match source.tree().short_text(e, DW_AT_name) {
-        Some(place) => source.has_str_text(place),
+        Some(place) => source.has_str_text(place.get()),
         None => false,
     }
 }
 
 // The fault of an entry's own name.
-fn name_fault(source: &Source, e: usize) -> Option<Fault>
+fn name_fault(source: &Source, e: EntryNumber) -> Option<Fault>
     requires { e < length source.now.tree.entries }
     ensures { result ≡ fault_of_name source.now e }
 {
@@ -84,7 +84,7 @@ fn name_fault(source: &Source, e: usize) -> Option<Fault>
 }
 
 // The same, if its kind is `Text` or `Index`: the first of the rows on an entry's name.
-fn name_row(source: &Source, e: usize) -> Option<Fault>
+fn name_row(source: &Source, e: EntryNumber) -> Option<Fault>
     requires { e < length source.now.tree.entries }
     ensures { result ≡ first (name_rows source.now e) }
 {
@@ -110,7 +110,7 @@ fn entry_pc_address(value: Option<Value>) -> Option<Value>
 }
 
 // The fault of the ranges, which count only where there is no `DW_AT_low_pc`.
-fn ranges_fault(source: &Source, e: usize) -> Option<Fault>
+fn ranges_fault(source: &Source, e: EntryNumber) -> Option<Fault>
     requires { e < length source.now.tree.entries }
     ensures { result ≡ fault_of_ranges source.now e }
 {
@@ -141,7 +141,7 @@ impl AddressFaults {
 
 // The faults of all attributes that determine the address of a function.
 #[tactic(auto, using(crate::proofs::PassLemmas::first_three))]
-fn faults_of_function(source: &Source, e: usize) -> AddressFaults
+fn faults_of_function(source: &Source, e: EntryNumber) -> AddressFaults
     requires { e < length source.now.tree.entries }
     ensures index { result.index ≡ first (map (if_of_kind kind.Index) (function_faults source.now e)) }
     ensures ranges { result.ranges ≡ first (map (if_of_kind kind.Ranges) (function_faults source.now e)) }
@@ -154,7 +154,7 @@ fn faults_of_function(source: &Source, e: usize) -> AddressFaults
 }
 
 // Whether an entry has addresses to check. Most entries have none.
-fn has_addresses(tree: &Tree<'_>, e: usize) -> bool
+fn has_addresses(tree: &Tree<'_>, e: EntryNumber) -> bool
     requires { e < length tree.now.entries }
     ensures { result ≡ are_addresses_asked tree.now e }
 {
@@ -163,7 +163,7 @@ fn has_addresses(tree: &Tree<'_>, e: usize) -> bool
 
 // The faults of the addresses of an entry.
 #[tactic(auto, unfolding(crate::specs::Pass::address_faults))]
-fn faults_of_addresses(source: &Source, e: usize) -> AddressFaults
+fn faults_of_addresses(source: &Source, e: EntryNumber) -> AddressFaults
     requires inside { e < length source.now.tree.entries }
     requires asked { are_addresses_asked source.now.tree e ≡ true }
     ensures index { result.index ≡ first (map (if_of_kind kind.Index) (address_faults source.now e)) }
@@ -181,7 +181,7 @@ fn faults_of_addresses(source: &Source, e: usize) -> AddressFaults
 
 // Whether an entry's own attribute refers to no entry.
 #[inline(always)]
-fn refers_nowhere(links: &Links<'_>, e: usize, name: u64) -> bool
+fn refers_nowhere(links: &Links<'_>, e: EntryNumber, name: u64) -> bool
     requires { e < length links.now.entries }
     ensures { result ≡ leads_nowhere links.now (own_of links.now e name) }
 {
@@ -213,10 +213,10 @@ fn lacks_unit(links: &Links<'_>, value: Option<Value>) -> bool
 
 // Whether an attribute of an entry refers to no entry, given the entry's own two links.
 #[tactic(auto, unfolding(crate::specs::Pass::has_bad_reference), using(crate::proofs::PassLemmas::nowhere_by_link))]
-fn has_bad_reference(links: &Links<'_>, e: usize, origin: Link, specification: Link) -> bool
+fn has_bad_reference(links: &Links<'_>, e: EntryNumber, origin: &Link, specification: &Link) -> bool
     requires inside { e < length links.now.entries }
-    requires origin { origin ≡ link_by links.now e dw_at_abstract_origin }
-    requires specification { specification ≡ link_by links.now e dw_at_specification }
+    requires origin { origin.now ≡ link_by links.now e dw_at_abstract_origin }
+    requires specification { specification.now ≡ link_by links.now e dw_at_specification }
     ensures { result ≡ refers_badly links.now e }
 {
     if refers_nowhere(links, e, DW_AT_type) {
@@ -237,7 +237,7 @@ fn has_bad_reference(links: &Links<'_>, e: usize, origin: Link, specification: L
 // Whether an entry has no type of its own, or has one that exists, by a short reference. False means nothing: the call only saves
 // time, and `refers_nowhere` answers in all cases.
 #[inline(always)]
-fn has_plain_type(links: &Links<'_>, e: usize) -> bool
+fn has_plain_type(links: &Links<'_>, e: EntryNumber) -> bool
     requires { e < length links.now.entries }
     ensures { result ≡ true → leads_nowhere links.now (own_of links.now e dw_at_type) ≡ false }
 {
@@ -255,7 +255,7 @@ fn has_plain_type(links: &Links<'_>, e: usize) -> bool
 // False means nothing: the call only saves time, and `linked_row` answers in all cases.
 #[inline(always)]
 #[tactic(auto, using(crate::proofs::PassLemmas::plain_rows))]
-fn refers_plainly(links: &Links<'_>, e: usize) -> bool
+fn refers_plainly(links: &Links<'_>, e: EntryNumber) -> bool
     requires { e < length links.now.entries }
     ensures { result ≡ true → first (reference_rows links.now e) ≡ None }
 {
@@ -275,22 +275,22 @@ fn refers_plainly(links: &Links<'_>, e: usize) -> bool
 // The first of the rows on an entry's references, link by link.
 #[inline(never)]
 #[tactic(auto, using(crate::proofs::PassLemmas::deep_by_links))]
-fn linked_row(links: &Links<'_>, e: usize) -> Option<Fault>
+fn linked_row(links: &Links<'_>, e: EntryNumber) -> Option<Fault>
     requires { e < length links.now.entries }
     ensures { result ≡ first (reference_rows links.now e) }
 {
     let origin = links.link_by(e, DW_AT_abstract_origin);
     let specification = links.link_by(e, DW_AT_specification);
-    if has_bad_reference(links, e, origin, specification) {
+    if has_bad_reference(links, e, &origin, &specification) {
         return Some(Fault {
             kind: FaultKind::Reference,
-            at: links.tree().offset(e),
+            at: links.tree().offset(e).get(),
         });
     }
     if links.is_too_deep(origin, specification) {
         return Some(Fault {
             kind: FaultKind::OriginTooDeep,
-            at: links.tree().offset(e),
+            at: links.tree().offset(e).get(),
         });
     }
     None
@@ -298,7 +298,7 @@ fn linked_row(links: &Links<'_>, e: usize) -> Option<Fault>
 
 // The first of the rows on an entry's references.
 #[inline(always)]
-fn reference_row(links: &Links<'_>, e: usize) -> Option<Fault>
+fn reference_row(links: &Links<'_>, e: EntryNumber) -> Option<Fault>
     requires { e < length links.now.entries }
     ensures { result ≡ first (reference_rows links.now e) }
 {
@@ -309,7 +309,7 @@ fn reference_row(links: &Links<'_>, e: usize) -> Option<Fault>
 }
 
 // The first of the rows after the one on the name, for an entry with addresses.
-fn row_with_addresses(source: &Source, e: usize) -> Option<Fault>
+fn row_with_addresses(source: &Source, e: EntryNumber) -> Option<Fault>
     requires inside { e < length source.now.tree.entries }
     requires asked { are_addresses_asked source.now.tree e ≡ true }
     ensures { result ≡ first (rows_behind_name source.now e) }
@@ -326,7 +326,7 @@ fn row_with_addresses(source: &Source, e: usize) -> Option<Fault>
 
 // The first of the rows after the one on the name.
 #[tactic(auto, using(crate::proofs::PassLemmas::without_addresses))]
-fn row_behind_name(source: &Source, e: usize) -> Option<Fault>
+fn row_behind_name(source: &Source, e: EntryNumber) -> Option<Fault>
     requires { e < length source.now.tree.entries }
     ensures { result ≡ first (rows_behind_name source.now e) }
 {
@@ -339,7 +339,7 @@ fn row_behind_name(source: &Source, e: usize) -> Option<Fault>
 
 // The first of the rows of an entry with a supported tag.
 #[tactic(auto, using(crate::proofs::PassLemmas::name_sound))]
-fn first_row(source: &Source, e: usize) -> Option<Fault>
+fn first_row(source: &Source, e: EntryNumber) -> Option<Fault>
     requires { e < length source.now.tree.entries }
     ensures { result ≡ first (entry_rows source.now e) }
 {
@@ -351,7 +351,7 @@ fn first_row(source: &Source, e: usize) -> Option<Fault>
 
 // An entry's own fault.
 #[tactic(auto, unfolding(crate::specs::Pass::entry_fault))]
-fn entry_fault(source: &Source, e: usize) -> Option<Fault>
+fn entry_fault(source: &Source, e: EntryNumber) -> Option<Fault>
     requires { e < length source.now.tree.entries }
     ensures { result ≡ fault_of_entry source.now e }
 {
@@ -362,13 +362,22 @@ fn entry_fault(source: &Source, e: usize) -> Option<Fault>
     }
 }
 
+// The fault of the entry with a number.
+fn fault_of_number(source: &Source, number: usize) -> Option<Fault>
+    requires { number < length source.now.tree.entries }
+    ensures { result ≡ fault_of_entry source.now number }
+{
+    source.tree().known();
+    entry_fault(source, EntryNumber::new(number as u32))
+}
+
 // The first fault of entries.
 #[tactic(auto, unfolding(crate::specs::Pass::own_fault))]
 pub(crate) fn own_fault(source: &Source) -> Option<Fault>
     ensures { result ≡ fault_of_entries source.now }
 {
     for e in 0..source.len() {
-        match entry_fault(source, e) {
+        match fault_of_number(source, e) {
             Some(fault) => return Some(fault),
             None => {}
         }

@@ -1,4 +1,4 @@
-// Maps from numbers to the first position of each.
+// Maps from numbers to the first place of each.
 ghost use Rattle.std.specs.Prelude.{◌≡◌, ℕ, if◌then◌else◌, Some, None, OnOk};
 ghost use Rattle.std.specs.Option.{option_or};
 ghost use Rattle.dwarf_entries.specs.Addresses.{is_some_number};
@@ -7,12 +7,12 @@ ghost use Rattle.dwarf_entries.specs.Places.{place_under};
 use abi_base::NoMemory;
 use std::collections::BTreeMap;
 
-// Enters a position under a number, if there is a number and it has no position yet. Usually there is none.
+// Enters a place under a number, if there is a number and it has no place yet. Usually there is none.
 #[inline(always)]
-pub(crate) fn keep_first(
-    places: &mut BTreeMap<u64, usize>,
+pub(crate) fn keep_first<P: Drop>(
+    places: &mut BTreeMap<u64, P>,
     number: Option<u64>,
-    place: usize,
+    place: P,
 ) -> Result<(), NoMemory>
     ensures { OnOk result ((q : ℕ) → place_under places.new q ≡ option_or (place_under places.old q) (if is_some_number q number then Some place else None)) }
 {
@@ -27,8 +27,8 @@ pub(crate) fn keep_first(
     }
 }
 
-// The position under a number.
-pub(crate) fn place_of(places: &BTreeMap<u64, usize>, number: u64) -> Option<usize>
+// The place under a number.
+pub(crate) fn place_of<P: Copy>(places: &BTreeMap<u64, P>, number: u64) -> Option<P>
     ensures { result ≡ place_under places.now number }
 {
     places.get(&number).copied()

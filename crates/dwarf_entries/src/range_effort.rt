@@ -6,9 +6,10 @@ use crate::source::Source;
 use abi_base::dwarf::{DW_AT_ranges, DW_TAG_subprogram};
 use abi_base::{Effort, Limit, NoMemory};
 use dwarf_text::ranges::spend_first;
+use dwarf_tree::EntryNumber;
 
 // Spends the budget for the list of a function, up to its first range.
-fn spend_for_entry(source: &Source, e: usize, effort: &mut Effort) -> Result<(), NoMemory>
+fn spend_for_entry(source: &Source, e: EntryNumber, effort: &mut Effort) -> Result<(), NoMemory>
     requires { e < length source.now.tree.entries }
 {
     let tree = source.tree();
@@ -26,8 +27,9 @@ fn spend_for_entry(source: &Source, e: usize, effort: &mut Effort) -> Result<(),
 pub(crate) fn spend_for_ranges(source: &Source) -> Result<(), NoMemory> {
     let sections = source.sections();
     let mut effort = Effort::for_table(Limit::RangeLists, sections.rnglists, sections.ranges);
+    source.tree().known();
     for e in 0..source.len() {
-        spend_for_entry(source, e, &mut effort)?;
+        spend_for_entry(source, EntryNumber::new(e as u32), &mut effort)?;
     }
     Ok(())
 }

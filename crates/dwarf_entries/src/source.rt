@@ -13,7 +13,7 @@ use crate::unit_context::{UnitContext, told_by_root};
 use abi_base::{Fault, NoMemory, text_at};
 use dwarf_forms::{Sections, Value};
 use dwarf_text::{address, text, text_fault, texts_end};
-use dwarf_tree::Tree;
+use dwarf_tree::{EntryNumber, Tree};
 use std::alloc::Global;
 use std::marker::Model;
 
@@ -104,7 +104,7 @@ impl<'a> Source<'a> {
     }
 
     // The context of an entry's unit.
-    pub(crate) fn told(&self, e: usize) -> &UnitContext
+    pub(crate) fn told(&self, e: EntryNumber) -> &UnitContext
         requires { e < length self.now.tree.entries }
         ensures { result.now ≡ told_of self.now (entry_at self.now.tree e).unit }
     {
@@ -115,7 +115,7 @@ impl<'a> Source<'a> {
     }
 
     // The DWARF version of an entry's unit.
-    pub(crate) fn version(&self, e: usize) -> u16
+    pub(crate) fn version(&self, e: EntryNumber) -> u16
         requires { e < length self.now.tree.entries }
         ensures { result ≡ (head_at self.now.tree (entry_at self.now.tree e).unit).version }
     {
@@ -126,7 +126,7 @@ impl<'a> Source<'a> {
 
     // The string of a value of an entry.
     #[tactic(auto, unfolding(crate::specs::Debug::text_at_entry, crate::specs::UnitContext::told_of))]
-    pub(crate) fn text(&self, e: usize, value: &Value) -> Result<&'a [u8], Fault>
+    pub(crate) fn text(&self, e: EntryNumber, value: &Value) -> Result<&'a [u8], Fault>
         requires { e < length self.now.tree.entries }
         ensures { result_map_both (λ t. t.now) (λ f. f) result ≡ text_at_entry self.now e value.now }
     {
@@ -157,7 +157,7 @@ impl<'a> Source<'a> {
     // The fault of the string of a value of an entry. Reads no string of `.debug_str`.
     #[inline(never)]
     #[tactic(auto, unfolding(crate::specs::Debug::text_at_entry, crate::specs::UnitContext::told_of))]
-    pub(crate) fn text_fault(&self, e: usize, value: &Value) -> Option<Fault>
+    pub(crate) fn text_fault(&self, e: EntryNumber, value: &Value) -> Option<Fault>
         requires { e < length self.now.tree.entries }
         ensures { result ≡ fault_of (text_at_entry self.now e value.now) }
     {
@@ -173,7 +173,7 @@ impl<'a> Source<'a> {
 
     // The address of a value of an entry.
     #[tactic(auto, unfolding(crate::specs::Debug::address_at_entry, crate::specs::UnitContext::told_of))]
-    pub(crate) fn address(&self, e: usize, value: &Value) -> Result<u64, Fault>
+    pub(crate) fn address(&self, e: EntryNumber, value: &Value) -> Result<u64, Fault>
         requires { e < length self.now.tree.entries }
         ensures { result ≡ address_at_entry self.now e value.now }
     {

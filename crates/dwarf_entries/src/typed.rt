@@ -9,12 +9,13 @@ use crate::addresses::{entry_address, is_defined};
 use crate::places::keep_first;
 use crate::source::Source;
 use abi_base::NoMemory;
+use dwarf_tree::EntryNumber;
 use std::alloc::Global;
 use std::collections::BTreeMap;
 
 // Whether an entry's unit is written in assembler.
 #[tactic(auto, unfolding(crate::specs::UnitContext::told_of))]
-fn is_of_assembler(source: &Source, e: usize) -> bool
+fn is_of_assembler(source: &Source, e: EntryNumber) -> bool
     requires { e < length source.now.tree.entries }
     ensures { result ≡ is_assembler source.now.tree (entry_at source.now.tree e).unit }
 {
@@ -23,7 +24,7 @@ fn is_of_assembler(source: &Source, e: usize) -> bool
 
 // The address of an entry.
 #[tactic(auto, unfolding(crate::specs::Addresses::is_typed_at))]
-fn typed_address(source: &Source, e: usize) -> Option<u64>
+fn typed_address(source: &Source, e: EntryNumber) -> Option<u64>
     requires { e < length source.now.tree.entries }
     ensures { (address : ℕ) → is_some_number address result ≡ is_typed_at source.now address e }
 {
@@ -40,13 +41,15 @@ fn typed_address(source: &Source, e: usize) -> Option<u64>
 pub(crate) fn entries_by_address(
     alloc: Global,
     source: &Source,
-) -> Result<BTreeMap<u64, usize>, NoMemory>
+) -> Result<BTreeMap<u64, EntryNumber>, NoMemory>
     ensures { IfOk result (λ places. HoldEntries places source.now) }
 {
     let mut places = BTreeMap::new(alloc);
+    source.tree().known();
     for e in 0..source.len() {
-        let address = typed_address(source, e);
-        keep_first(&mut places, address, e)?;
+        let entry = EntryNumber::new(e as u32);
+        let address = typed_address(source, entry);
+        keep_first(&mut places, address, entry)?;
     }
     Ok(places)
 }

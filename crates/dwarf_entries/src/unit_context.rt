@@ -10,7 +10,7 @@ use abi_base::dwarf::{
     DW_AT_addr_base, DW_AT_language, DW_AT_low_pc, DW_AT_rnglists_base, DW_AT_str_offsets_base,
     DW_LANG_Mips_Assembler,
 };
-use dwarf_forms::{Sections, Value};
+use dwarf_forms::{DebugInfoOffset, Sections, Value};
 use dwarf_text::{Bases, address};
 use dwarf_tree::Tree;
 
@@ -58,7 +58,7 @@ fn address_or_zero(value: &Value, addr_base: Option<u64>, sections: &Sections) -
         rnglists: None,
         low: 0,
     };
-    match address(value, &bases, sections, 0) {
+    match address(value, &bases, sections, DebugInfoOffset::new(0)) {
         Ok(address) => address,
         Err(_) => 0,
     }

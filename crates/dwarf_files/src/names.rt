@@ -1,7 +1,7 @@
 // The names of files in a line program header.
 ghost use Rattle.std.specs.Prelude.{◌≡◌, IfOk};
 ghost use Rattle.std.specs.Option.{option_copied, option_map};
-ghost use Rattle.dwarf_files.specs.Names.{entries_of, directory_of, file_of, text_of, number_of_directory, directory_text_of, whole_directory_of, name_by, file_name_of};
+ghost use Rattle.dwarf_files.specs.Names.{entries_of, directory_of, file_of, text_of, number_of_directory, directory_text_of, whole_directory_of, name_of, file_name_of};
 ghost use Rattle.dwarf_files.specs.Names as spec;
 ghost use Rattle.dwarf_files.specs.Picks.{picked};
 ghost use Rattle.dwarf_files.specs.Plain.{plain_header};
@@ -114,10 +114,10 @@ impl<'a> Header<'a> {
     fn text(&self, path: Option<Value>) -> Option<&'a [u8]>
         ensures { option_copied result ≡ text_of (plain_header self.now) path }
     {
-        match path {
-            Some(Value::Inline { from }) => text_at(self.bytes, from),
-            Some(Value::StrOffset(place)) => text_at(self.str, place),
-            Some(Value::LineOffset(place)) => text_at(self.line_str, place),
+        match &path {
+            Some(Value::Inline { from }) => text_at(self.bytes, *from),
+            Some(Value::StrOffset(place)) => text_at(self.str, place.get()),
+            Some(Value::LineOffset(place)) => text_at(self.line_str, place.get()),
             _ => None,
         }
     }
@@ -153,11 +153,14 @@ impl<'a> Header<'a> {
         }
     }
 
-    // The name of a file entry, joined to its directory.
-    #[tactic(auto, unfolding(crate::specs::Names::name_by))]
-    fn name(&self, alloc: Global, entry: Entry) -> Result<Option<Vec<u8>>, NoMemory>
-        ensures { IfOk result (λ r. option_map (λ d. d.items) r ≡ name_by (plain_header self.now) entry) }
+    // The name of the file with this number, joined to its directory.
+    #[tactic(auto, unfolding(crate::specs::Names::name_of, crate::specs::Names::name_by))]
+    fn name(&self, alloc: Global, number: u64) -> Result<Option<Vec<u8>>, NoMemory>
+        ensures { IfOk result (λ r. option_map (λ d. d.items) r ≡ name_of (plain_header self.now) number) }
     {
+        let Some(entry) = self.file(alloc, number)? else {
+            return Ok(None);
+        };
         let Some(name) = self.text(entry.path) else {
             return Ok(None);
         };
@@ -180,7 +183,7 @@ impl<'a> Header<'a> {
 /// Version 5 numbers files from 0, the primary source file, and version 4 from 1. A name that begins with a slash is unchanged. Any
 /// other name is prefixed with its directory and a slash; a relative directory is prefixed with directory 0, in which the unit was
 /// compiled. A header of version 4 does not have that directory, and the name is relative to it.
-#[tactic(auto, unfolding(crate::specs::Names::file_name_of, crate::specs::Names::name_of))]
+#[tactic(auto, unfolding(crate::specs::Names::file_name_of))]
 pub fn file_name(
     alloc: Global,
     sections: &LineSections<'_>,
@@ -199,8 +202,5 @@ pub fn file_name(
         version: head.version,
         tables: head.tables,
     };
-    match header.file(alloc, file)? {
-        Some(entry) => header.name(alloc, entry),
-        None => Ok(None),
-    }
+    header.name(alloc, file)
 }

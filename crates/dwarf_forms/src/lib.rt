@@ -5,10 +5,12 @@ pub mod abbreviations;
 mod forms;
 pub mod laws;
 mod meaning;
+mod offsets;
 mod sections;
 mod source;
 mod values;
 
 pub use forms::{UnitSpan, fixed_end, fixed_size, value, value_end};
+pub use offsets::{DebugAbbrevOffset, DebugInfoOffset, DebugLineStrOffset, DebugStrOffset};
 pub use sections::Sections;
 pub use values::Value;

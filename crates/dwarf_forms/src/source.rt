@@ -7,6 +7,7 @@ ghost use Rattle.dwarf_forms.specs.Values.{fixed, of_uleb, of_sleb, sixteen_byte
 ghost use Rattle.dwarf_forms.specs.Values as spec;
 
 use crate::meaning::Meaning;
+use crate::offsets::{DebugInfoOffset, DebugLineStrOffset, DebugStrOffset};
 use crate::values::Value;
 use abi_base::{Fault, FaultKind, sleb, text_at, u16_at, u32_at, u64_at, uint_at, uleb};
 
@@ -62,12 +63,14 @@ fn meant(meaning: Meaning, unit_start: u64, number: u64) -> Value
         Meaning::Address => Value::Address(number),
         Meaning::AddressIndex => Value::AddressIndex(number),
         Meaning::Unsigned => Value::Unsigned(number),
-        Meaning::StrOffset => Value::StrOffset(number),
-        Meaning::LineOffset => Value::LineOffset(number),
+        Meaning::StrOffset => Value::StrOffset(DebugStrOffset::new(number)),
+        Meaning::LineOffset => Value::LineOffset(DebugLineStrOffset::new(number)),
         Meaning::StrIndex => Value::StrIndex(number),
         Meaning::Flag => Value::Flag(number != 0),
-        Meaning::LocalReference => Value::Reference(number.wrapping_add(unit_start)),
-        Meaning::Reference => Value::Reference(number),
+        Meaning::LocalReference => {
+            Value::Reference(DebugInfoOffset::new(number.wrapping_add(unit_start)))
+        }
+        Meaning::Reference => Value::Reference(DebugInfoOffset::new(number)),
         Meaning::Signature => Value::Signature(number),
         Meaning::SectionOffset => Value::SectionOffset(number),
         Meaning::RangeIndex => Value::RangeIndex(number),

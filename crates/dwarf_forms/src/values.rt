@@ -2,6 +2,8 @@
 ghost use Rattle.std.specs.Prelude.{◌≡◌};
 ghost use Rattle.dwarf_forms.specs.Constants.{number_of, word_of, count_up_to_of, flag_holds};
 
+use crate::offsets::{DebugInfoOffset, DebugLineStrOffset, DebugStrOffset};
+
 /// The value of an attribute, by class (DWARF 5, section 7.5.5 "Classes and Forms"). Offsets count from the start of
 /// `.debug_info` unless another section is named.
 #[derive(Clone, Copy, Debug, PartialEq, Eq)]
@@ -21,15 +23,15 @@ pub enum Value {
     /// A string at this offset, up to a 0 byte.
     Inline { from: u64 },
     /// An offset into `.debug_str`.
-    StrOffset(u64),
+    StrOffset(DebugStrOffset),
     /// An offset into `.debug_line_str`.
-    LineOffset(u64),
+    LineOffset(DebugLineStrOffset),
     /// An index into the unit's part of `.debug_str_offsets`.
     StrIndex(u64),
     /// A flag.
     Flag(bool),
     /// The offset of another entry.
-    Reference(u64),
+    Reference(DebugInfoOffset),
     /// The signature of a type unit.
     Signature(u64),
     /// An offset into another section. The attribute decides which.

@@ -8,19 +8,19 @@ ghost use Rattle.dwarf_text.specs.Texts as spec;
 
 use crate::bases::Bases;
 use abi_base::{Fault, FaultKind, table_offset, text_at};
-use dwarf_forms::{Sections, Value};
+use dwarf_forms::{DebugInfoOffset, Sections, Value};
 
-fn no_text(entry: u64) -> Fault
+fn no_text(entry: DebugInfoOffset) -> Fault
     ensures { result ≡ fault kind.Text entry }
 {
     Fault {
         kind: FaultKind::Text,
-        at: entry,
+        at: entry.get(),
     }
 }
 
 // The string at an offset in a section.
-fn text_in(section: &[u8], place: u64, entry: u64) -> Result<&[u8], Fault>
+fn text_in(section: &[u8], place: u64, entry: DebugInfoOffset) -> Result<&[u8], Fault>
     ensures { result_map_both (λ t. t.now) (λ f. f) result ≡ spec.text_in section.now place entry }
 {
     match text_at(section, place) {
@@ -37,14 +37,14 @@ pub fn text<'a>(
     value: &Value,
     bases: &Bases,
     sections: &Sections<'a>,
-    entry: u64,
+    entry: DebugInfoOffset,
 ) -> Result<&'a [u8], Fault>
     ensures { result_map_both (λ t. t.now) (λ f. f) result ≡ text_of sections.now.info.now sections.now.str.now sections.now.line_str.now sections.now.str_offsets.now bases.now.str_offsets entry value.now }
 {
     match *value {
         Value::Inline { from } => text_in(sections.info, from, entry),
-        Value::StrOffset(place) => text_in(sections.str, place, entry),
-        Value::LineOffset(place) => text_in(sections.line_str, place, entry),
+        Value::StrOffset(place) => text_in(sections.str, place.get(), entry),
+        Value::LineOffset(place) => text_in(sections.line_str, place.get(), entry),
         Value::StrIndex(index) => match table_offset(
             sections.str_offsets,
             bases.str_offsets,
@@ -53,7 +53,7 @@ pub fn text<'a>(
             Some(place) => text_in(sections.str, u64::from(place), entry),
             None => Err(Fault {
                 kind: FaultKind::Index,
-                at: entry,
+                at: entry.get(),
             }),
         },
         _ => Err(no_text(entry)),
@@ -61,7 +61,7 @@ pub fn text<'a>(
 }
 
 // The fault of the string at an offset in a section whose strings end at `end`.
-fn fault_before(end: usize, place: u64, entry: u64) -> Option<Fault>
+fn fault_before(end: usize, place: u64, entry: DebugInfoOffset) -> Option<Fault>
     ensures { (section : List ℕ) → TextsEnd section end → result ≡ spec.fault_of (spec.text_in section place entry) }
 {
     if place < end as u64 {
@@ -88,13 +88,13 @@ pub fn text_fault(
     bases: &Bases,
     sections: &Sections<'_>,
     str_end: usize,
-    entry: u64,
+    entry: DebugInfoOffset,
 ) -> Option<Fault>
     requires { TextsEnd sections.now.str.now str_end }
     ensures { result ≡ spec.fault_of (text_of sections.now.info.now sections.now.str.now sections.now.line_str.now sections.now.str_offsets.now bases.now.str_offsets entry value.now) }
 {
     match *value {
-        Value::StrOffset(place) => fault_before(str_end, place, entry),
+        Value::StrOffset(place) => fault_before(str_end, place.get(), entry),
         Value::StrIndex(index) => match table_offset(
             sections.str_offsets,
             bases.str_offsets,
@@ -103,7 +103,7 @@ pub fn text_fault(
             Some(place) => fault_before(str_end, u64::from(place), entry),
             None => Some(Fault {
                 kind: FaultKind::Index,
-                at: entry,
+                at: entry.get(),
             }),
         },
         _ => fault_of(text(value, bases, sections, entry)),

@@ -6,6 +6,7 @@ mod PositionLemmas
 mod Growth
 mod InOrder
 mod KeptLemmas
+mod LongTextLemmas
 mod NameLemmas
 mod OrderLemmas
 mod ParentLaws

@@ -1,8 +1,6 @@
 -- The values that a number of four bytes encodes.
-use Rattle.std.proofs.Common.{◌≡◌, ◌≢◌, ◌∙◌, ◌+◌, ◌≤◌, ◌%◌, ◌^◌, ℕ, List, Option, Some, None, length, arith, refl, sym, ap, inl, inr}
-use Rattle.std.specs.Prelude.{IfSome, nat_le, pos, take}
-use Rattle.std.proofs.lemmas.Bool.{cases_Bool, leb-true}
-use Rattle.std.proofs.lemmas.Option.{none-some}
+use Rattle.std.proofs.Common.{◌≡◌, ◌≢◌, ◌∙◌, ◌+◌, ◌≤◌, ◌%◌, ◌^◌, ℕ, List, Option, Some, None, length, arith, refl, sym, ap}
+use Rattle.std.specs.Prelude.{IfSome, pos, take}
 use Rattle.std.proofs.lemmas.List.{length-take-le}
 use Rattle.abi_base.proofs.lemmas.Numbers.{number_inside}
 use Rattle.abi_base.specs.Dwarf.{dw_form_ref4, dw_form_strp}

@@ -17,6 +17,8 @@ use Rattle.dwarf_tree.specs.declared.entry_records.EntryHead.{EntryHead}
 use Rattle.dwarf_tree.specs.declared.entry_records.AbbreviationLayout.{AbbreviationLayout}
 use Rattle.dwarf_tree.specs.declared.entry_records.Slot.{Slot}
 use Rattle.dwarf_tree.specs.declared.entry_records.EntryRecord.{EntryRecord}
+use Rattle.dwarf_tree.specs.declared.long_texts.LongText.{LongText}
+use Rattle.dwarf_tree.specs.LongTexts.{IsLongText}
 use Rattle.dwarf_tree.specs.Trees.{TreeEntry, PlainTree, head_of, no_head, placed_entries, depth_at, count_below, is_after, root_of, IsOrdered}
 
 abbrev pub Attributes : Type 0
@@ -352,9 +354,10 @@ pub record AreRoots (t : PlainTree) (roots : List ℕ) : Type 0 where
   pub count : length roots ≡ length t.units
   pub each : RootsFirst t roots
 
--- the lists of the code are a tree in order, with its ends and roots
-pub record IsKept (info abbrevs : List ℕ) (units : List Head) (shapes : List AbbreviationLayout) (slots : List Slot) (entries : List EntryRecord) (ends roots : List ℕ) : Type 0 where
+-- the lists of the code are a tree in order, with its ends and roots, and long texts of the section
+pub record IsKept (info abbrevs : List ℕ) (units : List Head) (shapes : List AbbreviationLayout) (slots : List Slot) (entries : List EntryRecord) (ends roots : List ℕ) (texts : List LongText) : Type 0 where
   pub inside : LieInside info abbrevs units shapes slots entries
   pub ordered : IsOrdered (kept_tree units shapes (decoder info abbrevs units) entries)
   pub ends_are : AreEnds (kept_tree units shapes (decoder info abbrevs units) entries) ends
   pub roots_are : AreRoots (kept_tree units shapes (decoder info abbrevs units) entries) roots
+  pub texts_are : All (IsLongText info) texts

@@ -1,5 +1,5 @@
 // The values of attributes, read from the bytes on demand.
-ghost use Rattle.std.specs.Prelude.{◌≡◌, ◌≢◌, ◌<◌, ◌≤◌, ◌^◌, ◌%◌, ◌/◌, ◌==◌, [], IfNone, IfSome, Some, length, map};
+ghost use Rattle.std.specs.Prelude.{◌≡◌, ◌≢◌, ◌<◌, ◌≤◌, ◌^◌, ◌%◌, ◌/◌, ◌==◌, [], All, IfNone, IfSome, Some, length, map};
 ghost use Rattle.std.specs.Int.RustNames.{bit_or};
 ghost use Rattle.dwarf_forms.specs.Values.{place_after, value_at};
 ghost use Rattle.dwarf_forms.specs.declared.values.Value.TheVariants as value;
@@ -8,26 +8,29 @@ ghost use Rattle.abi_base.specs.Runs.{put_front};
 ghost use Rattle.dwarf_forms.specs.abbreviations.Abbrevs.{plain_pair, specs_run};
 ghost use Rattle.dwarf_tree.specs.Keeping.{FindSame, HaveNames, IsLayout, SpellsNumber, asked_value, value_read, values_of};
 ghost use Rattle.dwarf_tree.specs.Keeping as keeping;
+ghost use Rattle.dwarf_tree.specs.LongTexts.{IsLongText};
 
 use crate::entry_records::{
     AbbreviationLayout, EntryHead, EntryRecord, FORM_UNKNOWN, Slot, shaped,
 };
 use crate::head::Head;
+use crate::long_texts::{LongText, end_of_text};
 use crate::names::bit_of;
 use crate::slots::slot_for;
 use abi_base::dwarf::{DW_FORM_ref4, DW_FORM_string, DW_FORM_strp};
-use abi_base::{Fault, text_at, u32_at, uleb};
+use abi_base::{Fault, u32_at, uleb};
 use dwarf_forms::abbreviations::{ShortPair, Spec, next_spec, short_pair};
 use dwarf_forms::laws::references_count_from_their_unit;
-use dwarf_forms::{UnitSpan, Value, fixed_end, value, value_end};
+use dwarf_forms::{DebugInfoOffset, DebugStrOffset, UnitSpan, Value, fixed_end, value, value_end};
 
-// What an entry's attributes are read from: the bytes, the slots of all shapes, the header of its unit, and the entry's shape and
+// What an entry's attributes are read from: the bytes, the slots of all shapes, the long texts among the bytes, the header of its unit, and the entry's shape and
 // record.
 #[derive(Clone, Copy)]
 pub(crate) struct AttributeSource<'t> {
     pub info: &'t [u8],
     pub abbrevs: &'t [u8],
     pub slots: &'t [Slot],
+    pub long_texts: &'t [LongText],
     pub head: &'t Head,
     pub shape: &'t AbbreviationLayout,
     pub stored: EntryRecord,
@@ -68,8 +71,8 @@ fn value_in(info: &[u8], head: Head, kept: EntryHead, spec: Spec, at: usize) -> 
     ensures { result ≡ value_read (value_at spec.form spec.implicit head.offset head.end kept.offset info.now at) }
 {
     let unit = UnitSpan {
-        start: head.offset,
-        end: head.end,
+        start: head.offset.get(),
+        end: head.end.get(),
     };
     match value(info, unit, u64::from(kept.offset), spec, at) {
         Ok((found, _)) => Some(found),
@@ -79,17 +82,24 @@ fn value_in(info: &[u8], head: Head, kept: EntryHead, spec: Spec, at: usize) -> 
 
 // The offset after that value. Inline strings are skipped here, since most values without a fixed size are short names.
 #[inline(always)]
-#[tactic(auto, using(crate::proofs::AskLemmas::text_passed))]
-fn end_in(info: &[u8], head: Head, kept: EntryHead, spec: Spec, at: usize) -> Result<usize, Fault>
-    requires { head.end ≤ length info.now }
-    ensures { result ≡ place_after (value_at spec.form spec.implicit head.offset head.end kept.offset info.now at) }
+#[tactic(auto, using(crate::proofs::LongTextLemmas::text_behind))]
+fn end_in(
+    asked: &AttributeSource<'_>,
+    kept: EntryHead,
+    spec: Spec,
+    at: usize,
+) -> Result<usize, Fault>
+    requires inside { asked.now.head.now.end ≤ length asked.now.info.now }
+    requires texts { All (IsLongText asked.now.info.now) asked.now.long_texts.now }
+    ensures { result ≡ place_after (value_at spec.form spec.implicit asked.now.head.now.offset asked.now.head.now.end kept.offset asked.now.info.now at) }
 {
+    let end = asked.head.end.get();
     if spec.form == DW_FORM_string {
-        if let Some(text) = text_at(&info[..head.end as usize], at as u64) {
-            return Ok(at + text.len() + 1);
+        if let Some(to) = end_of_text(asked.info, asked.long_texts, end as usize, at) {
+            return Ok(to + 1);
         }
     }
-    value_end(spec.form, head.end, u64::from(kept.offset), info, at)
+    value_end(spec.form, end, u64::from(kept.offset), asked.info, at)
 }
 
 // The attribute specification in two bytes.
@@ -143,24 +153,26 @@ fn pass_plain(abbrevs: &[u8], unit_end: u64, name: u64, first: usize, from: usiz
 // The first value of an attribute of an entry. Reads attribute specifications and values side by side up to the attribute, and
 // skips the values before it.
 #[tactic(auto, using(crate::proofs::AskLemmas::ask_more, crate::proofs::AskLemmas::ask_cut, crate::proofs::AskLemmas::ask_met, crate::proofs::AskLemmas::ask_end, crate::proofs::AskLemmas::ask_start, crate::proofs::AskLemmas::ask_nothing))]
-fn first_value(info: &[u8], abbrevs: &[u8], head: Head, kept: EntryHead, name: u64) -> Option<Value>
-    requires { head.end ≤ length info.now }
-    ensures { result ≡ attribute_of (values_of info.now abbrevs.now head kept) name }
+fn first_value(asked: &AttributeSource<'_>, kept: EntryHead, name: u64) -> Option<Value>
+    requires inside { asked.now.head.now.end ≤ length asked.now.info.now }
+    requires texts { All (IsLongText asked.now.info.now) asked.now.long_texts.now }
+    ensures { result ≡ attribute_of (values_of asked.now.info.now asked.now.abbrevs.now asked.now.head.now kept) name }
 {
-    let Some((_, after)) = uleb(&info[..head.end as usize], kept.offset as usize) else {
+    let end = asked.head.end.get();
+    let Some((_, after)) = uleb(&asked.info[..end as usize], kept.offset as usize) else {
         return None;
     };
     let mut pairs = kept.specs_from as usize;
     let mut at = after;
     'pairs: loop {
-        let (first, from) = pass_plain(abbrevs, head.end, name, pairs, at);
-        let Some((spec, next)) = pair_at(abbrevs, first) else {
+        let (first, from) = pass_plain(asked.abbrevs, end, name, pairs, at);
+        let Some((spec, next)) = pair_at(asked.abbrevs, first) else {
             return None;
         };
         if spec.attribute == name {
-            return value_in(info, head, kept, spec, from);
+            return value_in(asked.info, *asked.head, kept, spec, from);
         }
-        match end_in(info, head, kept, spec, from) {
+        match end_in(asked, kept, spec, from) {
             Ok(after) => {
                 pairs = next;
                 at = after;
@@ -173,11 +185,12 @@ fn first_value(info: &[u8], abbrevs: &[u8], head: Head, kept: EntryHead, name: u
 // The same for a stored entry.
 #[inline(never)]
 fn walked(asked: &AttributeSource<'_>, name: u64) -> Option<Value>
-    requires { asked.now.head.now.end ≤ length asked.now.info.now }
+    requires inside { asked.now.head.now.end ≤ length asked.now.info.now }
+    requires texts { All (IsLongText asked.now.info.now) asked.now.long_texts.now }
     ensures { result ≡ asked_value asked.now name }
 {
     let kept = shaped(*asked.shape, asked.stored);
-    first_value(asked.info, asked.abbrevs, *asked.head, kept, name)
+    first_value(asked, kept, name)
 }
 
 // The first value of an attribute of a stored entry. A slot of its shape gives the offset of the value, if all values before it
@@ -185,6 +198,7 @@ fn walked(asked: &AttributeSource<'_>, name: u64) -> Option<Value>
 #[tactic(auto, using(crate::proofs::AskLemmas::ask_nothing))]
 pub(crate) fn value_of(asked: &AttributeSource<'_>, name: u64) -> Option<Value>
     requires inside { asked.now.head.now.end ≤ length asked.now.info.now }
+    requires texts { All (IsLongText asked.now.info.now) asked.now.long_texts.now }
     requires shape { IsLayout asked.now.abbrevs.now asked.now.slots.now asked.now.shape.now }
     ensures { result ≡ asked_value asked.now name }
 {
@@ -192,14 +206,12 @@ pub(crate) fn value_of(asked: &AttributeSource<'_>, name: u64) -> Option<Value>
     let Some(slot) = slot_for(asked.slots, *asked.shape, name) else {
         return walked(asked, name);
     };
-    let Some((_, after)) = uleb(
-        &asked.info[..head.end as usize],
-        asked.stored.offset as usize,
-    ) else {
+    let end = head.end.get();
+    let Some((_, after)) = uleb(&asked.info[..end as usize], asked.stored.offset as usize) else {
         return None;
     };
     let at = after + usize::from(slot.from);
-    if slot.form == FORM_UNKNOWN || at as u64 > head.end {
+    if slot.form == FORM_UNKNOWN || at as u64 > end {
         return walked(asked, name);
     }
     let pair = ShortPair {
@@ -219,7 +231,8 @@ fn short_number(asked: &AttributeSource<'_>, name: u64, form: u64) -> Option<u32
     requires told { form ≢ 0 }
     ensures { IfSome result (SpellsNumber asked.now.info.now asked.now.abbrevs.now asked.now.head.now (keeping.shaped asked.now.shape.now asked.now.stored) name form) }
 {
-    let unit = &asked.info[..asked.head.end as usize];
+    let end = asked.head.end.get();
+    let unit = &asked.info[..end as usize];
     let slot = slot_for(asked.slots, *asked.shape, name)?;
     if u64::from(slot.form) != form {
         return None;
@@ -232,25 +245,25 @@ fn short_number(asked: &AttributeSource<'_>, name: u64, form: u64) -> Option<u32
 // The call only saves time: None means nothing, and `value_of` answers in all cases.
 #[inline(always)]
 #[tactic(auto, using(crate::proofs::ShortLemmas::refers_short))]
-pub(crate) fn short_reference_of(asked: &AttributeSource<'_>, name: u64) -> Option<u64>
+pub(crate) fn short_reference_of(asked: &AttributeSource<'_>, name: u64) -> Option<DebugInfoOffset>
     requires inside { asked.now.head.now.end ≤ length asked.now.info.now }
     requires shape { IsLayout asked.now.abbrevs.now asked.now.slots.now asked.now.shape.now }
     ensures { IfSome result (λ offset. asked_value asked.now name ≡ Some (value.Reference offset)) }
 {
     references_count_from_their_unit();
     let number = short_number(asked, name, DW_FORM_ref4)?;
-    Some(u64::from(number).wrapping_add(asked.head.offset))
+    Some(DebugInfoOffset::new(u64::from(number).wrapping_add(asked.head.offset.get())))
 }
 
 // The offset in `.debug_str` of the string of an attribute of a stored entry, if the attribute has the form `DW_FORM_strp` and a
 // slot. The call only saves time: None means nothing, and `value_of` answers in all cases.
 #[inline(always)]
 #[tactic(auto, using(crate::proofs::ShortLemmas::text_short))]
-pub(crate) fn short_text_of(asked: &AttributeSource<'_>, name: u64) -> Option<u64>
+pub(crate) fn short_text_of(asked: &AttributeSource<'_>, name: u64) -> Option<DebugStrOffset>
     requires inside { asked.now.head.now.end ≤ length asked.now.info.now }
     requires shape { IsLayout asked.now.abbrevs.now asked.now.slots.now asked.now.shape.now }
     ensures { IfSome result (λ place. asked_value asked.now name ≡ Some (value.StrOffset place)) }
 {
     let number = short_number(asked, name, DW_FORM_strp)?;
-    Some(u64::from(number))
+    Some(DebugStrOffset::new(u64::from(number)))
 }

@@ -3,18 +3,22 @@ ghost use Rattle.std.specs.Prelude.{IfOk};
 ghost use Rattle.dwarf_tree.specs.Keeping.{AreRoots};
 ghost use Rattle.dwarf_tree.specs.Trees.{IsOrdered};
 
+use crate::entry_number::EntryNumber;
 use crate::tree_builder::TreeBuilder;
 use abi_base::NoMemory;
 use std::alloc::Global;
 
 // The position of each unit's root.
-pub(crate) fn roots_of(alloc: Global, growing: &TreeBuilder<'_>) -> Result<Vec<u32>, NoMemory>
+pub(crate) fn roots_of(
+    alloc: Global,
+    growing: &TreeBuilder<'_>,
+) -> Result<Vec<EntryNumber>, NoMemory>
     requires { IsOrdered growing.now.tree }
     ensures { IfOk result (λ roots. AreRoots growing.now.tree roots.items) }
 {
     let mut roots = Vec::with_capacity(alloc, growing.units_len())?;
     for unit in 0..growing.units_len() {
-        roots.push(growing.root(unit) as u32)?;
+        roots.push(EntryNumber::new(growing.root(unit) as u32))?;
     }
     Ok(roots)
 }

@@ -93,7 +93,7 @@ impl AbbreviationLayouts {
         Ok((slots_from, self.slots.len() as u32))
     }
 
-    /// Appends the shape of an entry of a unit, and notes the offset of its attribute specifications. Answers the number of the
+    /// Appends the shape of an entry of a unit, and notes the offset of its attribute specifications. Returns the number of the
     /// shape.
     pub fn push(
         &mut self,
@@ -110,7 +110,7 @@ impl AbbreviationLayouts {
         ensures extended { Extends self.old.slots self.new.slots }
     {
         let number = self.list.len() as u32;
-        let specs_from = entry.specs_from();
+        let specs_from = entry.specs_from().get();
         let (slots_from, slots_to) = self.slots_of(abbrevs, specs_from)?;
         self.list.push(AbbreviationLayout {
             tag: entry.tag(),

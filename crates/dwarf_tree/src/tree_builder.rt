@@ -18,7 +18,7 @@ fn entry_record_of(shape: u32, entry: &Outline<'_, '_>) -> EntryRecord
     ensures { result ≡ stored_of shape entry.now }
 {
     EntryRecord {
-        offset: entry.offset() as u32,
+        offset: entry.offset().get() as u32,
         shape,
         depth: entry.depth(),
     }
@@ -65,7 +65,7 @@ fn store(
     ensures same_shapes { OnErr result (shapes.new.shapes ≡ shapes.old.shapes) }
     ensures same_entries { OnErr result (entries.new.items ≡ entries.old.items) }
 {
-    let Some(shape) = shapes.find(unit, entry.tag(), entry.specs_from()) else {
+    let Some(shape) = shapes.find(unit, entry.tag(), entry.specs_from().get()) else {
         return store_first(abbrevs, shapes, entries, unit, entry);
     };
     entries.push(entry_record_of(shape, entry))?;

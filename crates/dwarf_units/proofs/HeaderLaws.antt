@@ -3,7 +3,8 @@ use Rattle.std.proofs.Common.{◌≡◌, ◌⊎◌, ℕ, ◌+◌, ◌<◌, ◌�
 use Rattle.std.specs.Prelude.{◌↔◌, ◌==◌, ◌&&◌, ◌||◌, not}
 use Rattle.std.proofs.lemmas.Bool.{cases_lt, ltb-true, lt-ltb, le-ltb}
 use Rattle.std.proofs.lemmas.Bool.Decides.{leb_tells, eqb_tells}
-use Rattle.abi_base.specs.Dwarf.{dw_ut_compile, dw_ut_type, dw_ut_partial, dwarf_4, dwarf_5, length_size, dwarf64_length, reserved_length, header_size_4, x86_64_address_size}
+use Rattle.abi_base.specs.Dwarf.{dw_ut_compile, dw_ut_type, dw_ut_partial}
+use Rattle.dwarf_units.specs.HeaderLayout.{dwarf_4, dwarf_5, length_size, dwarf64_length, reserved_length, header_size_4, x86_64_address_size}
 use Rattle.abi_base.specs.Outcome.{fault_if, first}
 use Rattle.abi_base.specs.Runs.{Chain, Run}
 use Rattle.abi_base.proofs.lemmas.Runs.{chain_run}

@@ -3,7 +3,7 @@ use Rattle.std.proofs.Common.{◌≡◌, ◌∙◌, ℕ, zero, suc, ltb, Bool, t
 use Rattle.std.specs.Prelude.{All, ◌==◌}
 use Rattle.std.proofs.lemmas.Bool.{cases_Bool}
 use Rattle.abi_base.proofs.lemmas.Cases.{option_cases, result_cases, same_Ok}
-use Rattle.abi_base.specs.Dwarf.{dwarf_4}
+use Rattle.dwarf_units.specs.HeaderLayout.{dwarf_4}
 use Rattle.abi_base.specs.Leb.{uleb_at}
 use Rattle.abi_base.specs.declared.fault.Fault.{Fault}
 use Rattle.abi_base.specs.Runs.{Run, continue, given, put_front, run}

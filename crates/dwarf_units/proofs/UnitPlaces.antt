@@ -4,9 +4,8 @@ use Rattle.std.specs.Prelude.{◌&&◌, ◌==◌, nat_lt, nat_le, is_some, if◌
 use Rattle.std.proofs.lemmas.Bool.{cases_Bool, ltb-false, or_parts}
 use Rattle.abi_base.proofs.lemmas.Outcomes.{fault_if-none}
 use Rattle.abi_base.proofs.lemmas.Cases.{option_cases, same_Ok}
-use Rattle.abi_base.specs.Dwarf.{length_size, dwarf64_length, reserved_length, header_size_4, dwarf_4, type_signature_at}
+use Rattle.dwarf_units.specs.HeaderLayout.{length_size, dwarf64_length, reserved_length, header_size_4, dwarf_4, type_signature_at}
 use Rattle.abi_base.specs.declared.fault.Fault.{Fault}
-use Rattle.abi_base.specs.declared.fault.FaultKind.{FaultKind}
 use Rattle.abi_base.specs.declared.fault.FaultKind.TheVariants as kind
 use Rattle.abi_base.specs.Numbers.{number}
 use Rattle.abi_base.specs.Outcome.{first, fault_if}

@@ -1,7 +1,8 @@
 -- The faults of a unit's header as rows of a table. Each row is a condition on the bytes at the unit's offset, and the first row
 -- that holds decides.
 use Rattle.std.specs.Prelude.{◌≡◌, ◌<◌, ◌≤◌, ◌⊎◌, ℕ, ◌+◌, List, [], ◌∷◌, length, Some, None}
-use Rattle.abi_base.specs.Dwarf.{dw_ut_compile, dw_ut_type, dw_ut_partial, dwarf_4, dwarf_5, length_size, dwarf64_length, reserved_length, header_size_4, x86_64_address_size}
+use Rattle.abi_base.specs.Dwarf.{dw_ut_compile, dw_ut_type, dw_ut_partial}
+use Rattle.dwarf_units.specs.HeaderLayout.{dwarf_4, dwarf_5, length_size, dwarf64_length, reserved_length, header_size_4, x86_64_address_size}
 use Rattle.abi_base.specs.declared.fault.Fault.{Fault}
 use Rattle.abi_base.specs.declared.fault.FaultKind.{FaultKind}
 use Rattle.abi_base.specs.declared.fault.FaultKind.TheVariants as kind

@@ -1,5 +1,6 @@
 pub mod Following
 pub mod Grammar
+pub mod HeaderLayout
 pub mod HeaderRows
 pub mod KeptTables
 pub mod Outlines

@@ -1,7 +1,8 @@
 -- The units of `.debug_info`, in order, and how they end (DWARF 5, section 7.5.1 "Unit Headers"; DWARF 4, section 7.5.1.1
 -- "Compilation Unit Header").
 use Rattle.std.specs.Prelude.{◌≡◌, ◌<◌, ◌≤◌, ℕ, suc, ◌+◌, ◌==◌, ◌||◌, ◌&&◌, not, nat_lt, nat_le, Bool, false, if◌then◌else◌, List, [], ◌∷◌, ◌++◌, flat_map, map, length, slice_index, Option, Some, None, Result, Ok, Err}
-use Rattle.abi_base.specs.Dwarf.{dw_tag_partial_unit, dw_ut_compile, dw_ut_type, dw_ut_partial, dwarf_4, dwarf_5, length_size, dwarf64_length, reserved_length, header_size_4, version_at, debug_abbrev_offset_4_at, address_size_4_at, unit_type_at, address_size_at, debug_abbrev_offset_at, type_signature_at, type_offset_at, x86_64_address_size}
+use Rattle.abi_base.specs.Dwarf.{dw_tag_partial_unit, dw_ut_compile, dw_ut_type, dw_ut_partial}
+use Rattle.dwarf_units.specs.HeaderLayout.{dwarf_4, dwarf_5, length_size, dwarf64_length, reserved_length, header_size_4, version_at, debug_abbrev_offset_4_at, address_size_4_at, unit_type_at, address_size_at, debug_abbrev_offset_at, type_signature_at, type_offset_at, x86_64_address_size}
 use Rattle.abi_base.specs.declared.fault.Fault.{Fault}
 use Rattle.abi_base.specs.declared.fault.FaultKind.TheVariants as kind
 use Rattle.abi_base.specs.Numbers.{number}

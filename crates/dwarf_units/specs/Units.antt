@@ -3,7 +3,8 @@
 use Rattle.std.specs.Prelude.{ℕ, zero, suc, ◌+◌, ◌==◌, ◌||◌, ◌&&◌, not, nat_lt, Bool, true, false, if◌then◌else◌, is_some, List, [], ◌∷◌, take, Option, Some, None, Result, Ok, Err, slice_index, find, pos}
 use Rattle.std.specs.List.{list_any}
 use Rattle.std.specs.Option.{option_map}
-use Rattle.abi_base.specs.Dwarf.{dw_at_language, dw_lang_c89, dw_lang_c, dw_lang_c99, dw_lang_c11, dw_lang_c17, dw_lang_mips_assembler, dw_tag_compile_unit, dw_tag_partial_unit, dw_tag_type_unit, dwarf_4, header_size_4, type_header_size, header_size}
+use Rattle.abi_base.specs.Dwarf.{dw_at_language, dw_lang_c89, dw_lang_c, dw_lang_c99, dw_lang_c11, dw_lang_c17, dw_lang_mips_assembler, dw_tag_compile_unit, dw_tag_partial_unit, dw_tag_type_unit}
+use Rattle.dwarf_units.specs.HeaderLayout.{dwarf_4, header_size_4, type_header_size, header_size}
 use Rattle.abi_base.specs.declared.fault.Fault.{Fault}
 use Rattle.abi_base.specs.declared.fault.FaultKind.TheVariants as kind
 use Rattle.abi_base.specs.Leb.{uleb_at}

@@ -1,6 +1,6 @@
 // The header of a unit: its faults and its fields.
 ghost use Rattle.std.specs.Prelude.{◌≡◌, ◌≤◌, ◌<◌, ◌+◌, ◌||◌, nat_lt, length, true, IfNone};
-ghost use Rattle.abi_base.specs.Dwarf.{header_size_4, length_size};
+ghost use Rattle.dwarf_units.specs.HeaderLayout.{header_size_4, length_size};
 ghost use Rattle.abi_base.specs.Outcome.{first};
 ghost use Rattle.dwarf_units.specs.Sequence.{header_fault, header_size_at, is_type_at, kind_rows, length_rows, unit_abbrevs, unit_end, unit_version};
 ghost use Rattle.dwarf_units.specs.Sequence as spec;
@@ -12,6 +12,7 @@ use crate::constants::{
 };
 use abi_base::dwarf::{DW_UT_compile, DW_UT_partial, DW_UT_type};
 use abi_base::{Fault, FaultKind, u16_in, u32_in};
+use dwarf_forms::DebugAbbrevOffset;
 
 fn fault_at(kind: FaultKind, at: usize) -> Fault
     ensures { result ≡ record { kind = kind; at = at } }
@@ -130,7 +131,7 @@ pub fn header_fault_in(info: &[u8], at: usize) -> Option<Fault>
 }
 
 /// The offset of a unit's abbreviations in `.debug_abbrev`.
-pub fn abbrevs_in(info: &[u8], at: usize) -> u64
+pub fn abbrevs_in(info: &[u8], at: usize) -> DebugAbbrevOffset
     requires { at + header_size_at info.now at ≤ length info.now }
     ensures { result ≡ unit_abbrevs info.now at }
 {
@@ -139,7 +140,7 @@ pub fn abbrevs_in(info: &[u8], at: usize) -> u64
     } else {
         at + DEBUG_ABBREV_OFFSET
     };
-    u64::from(u32_in(info, place))
+    DebugAbbrevOffset::new(u64::from(u32_in(info, place)))
 }
 
 /// Whether a unit is a type unit.

@@ -1,6 +1,6 @@
 //! Laws about units and entries, as the contracts of functions with empty bodies.
 ghost use Rattle.std.specs.Prelude.{◌≡◌, ◌↔◌, All, ℕ, List, Option, Some, None, Ok};
-ghost use Rattle.abi_base.specs.Dwarf.{dwarf_4};
+ghost use Rattle.dwarf_units.specs.HeaderLayout.{dwarf_4};
 ghost use Rattle.abi_base.specs.Runs.{Chain, given};
 ghost use Rattle.abi_base.specs.declared.fault.Fault.{Fault};
 ghost use Rattle.dwarf_units.specs.declared.entry.Entry.{Entry};

@@ -6,6 +6,7 @@ use crate::unit::Unit;
 use crate::values::values_in;
 use abi_base::{NoMemory, Refusal};
 use dwarf_forms::abbreviations::{Abbrev, Spec};
+use dwarf_forms::{DebugAbbrevOffset, DebugInfoOffset};
 use std::alloc::Global;
 use std::marker::Model;
 
@@ -15,7 +16,7 @@ pub struct Outline<'u, 'a> {
     pub(crate) unit: &'u Unit<'a>,
     // Its abbreviation.
     pub(crate) form: &'u Abbrev,
-    pub(crate) offset: u64,
+    pub(crate) offset: DebugInfoOffset,
     pub(crate) depth: u32,
     // The offset of its values, after the abbreviation code.
     pub(crate) values: usize,
@@ -39,7 +40,7 @@ impl<'u, 'a> Model for Outline<'u, 'a> {
 impl<'u, 'a> Outline<'u, 'a> {
     /// The offset of the entry in `.debug_info`.
     #[inline]
-    pub fn offset(&self) -> u64
+    pub fn offset(&self) -> DebugInfoOffset
         ensures { result ≡ self.now.offset }
     {
         self.offset
@@ -63,7 +64,7 @@ impl<'u, 'a> Outline<'u, 'a> {
 
     /// The offset of its abbreviation's attribute specifications in `.debug_abbrev`.
     #[inline]
-    pub fn specs_from(&self) -> u64
+    pub fn specs_from(&self) -> DebugAbbrevOffset
         ensures { result ≡ self.now.specs_from }
     {
         self.form.specs_from
@@ -82,7 +83,7 @@ impl<'u, 'a> Outline<'u, 'a> {
         ensures { IfOk result (λ e. e ≡ self.now) }
     {
         let specs = self.form.specs.as_slice();
-        match values_in(alloc, self.unit, self.offset, specs, self.values) {
+        match values_in(alloc, self.unit, self.offset.get(), specs, self.values) {
             Ok((attributes, _)) => Ok(Entry {
                 offset: self.offset,
                 depth: self.depth,

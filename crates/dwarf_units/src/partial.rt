@@ -33,5 +33,5 @@ pub fn is_partial(alloc: Global, unit: &Unit<'_>) -> Result<bool, NoMemory>
     if unit.version == DWARF_4 {
         return has_partial_root(alloc, unit);
     }
-    Ok(unit.info[unit.offset as usize + UNIT_TYPE] == DW_UT_partial)
+    Ok(unit.info[unit.offset.get() as usize + UNIT_TYPE] == DW_UT_partial)
 }

@@ -59,7 +59,7 @@ fn unmet(unit: &Unit<'_>, met: bool) -> Option<Fault>
     if unit.signature.is_some() && !met {
         Some(Fault {
             kind: FaultKind::TypeOffset,
-            at: unit.offset,
+            at: unit.offset.get(),
         })
     } else {
         None

@@ -10,6 +10,7 @@ use crate::partial::is_partial;
 use crate::table::{Tables, table_in};
 use crate::unit::Unit;
 use abi_base::{Refusal, u16_in, u32_in, u64_in};
+use dwarf_forms::DebugInfoOffset;
 use std::alloc::Global;
 use std::marker::Model;
 
@@ -63,8 +64,8 @@ fn unit_in<'a>(
         Ok(table) => {
             let is_type = is_type_in(info, at);
             let mut unit = Unit {
-                offset: at as u64,
-                end,
+                offset: DebugInfoOffset::new(at as u64),
+                end: DebugInfoOffset::new(end),
                 version: u16_in(info, at + VERSION),
                 partial: false,
                 signature: if is_type {
@@ -72,11 +73,11 @@ fn unit_in<'a>(
                 } else {
                     None
                 },
-                type_entry: if is_type {
+                type_entry: DebugInfoOffset::new(if is_type {
                     at as u64 + u64::from(u32_in(info, at + TYPE_OFFSET))
                 } else {
                     0
-                },
+                }),
                 table,
                 info,
             };
@@ -100,7 +101,7 @@ impl<'a> Units<'a> {
         }
         match unit_in(alloc, self.info, self.abbrevs, self.at, &mut self.tables) {
             Ok(unit) => {
-                self.at = unit.end as usize;
+                self.at = unit.end.get() as usize;
                 Ok(Some(unit))
             }
             Err(refused) => Err(refused),

@@ -6,7 +6,7 @@ ghost use Rattle.dwarf_forms.specs.abbreviations.LeastBytes.{least_bytes_of};
 ghost use Rattle.dwarf_units.specs.Sizes.{AreSizes, EndBehind, IsSizeIn};
 
 use abi_base::NoMemory;
-use dwarf_forms::abbreviations::{Abbrev, Spec, Table};
+use dwarf_forms::abbreviations::{Abbrev, AbbreviationCode, Spec, Table};
 use dwarf_forms::fixed_size;
 use dwarf_forms::laws::values_of_a_fixed_size_end_behind_it;
 use std::alloc::Global;
@@ -65,7 +65,7 @@ fn sizes_of(alloc: Global, table: &Table) -> Result<Vec<Option<u16>>, NoMemory>
     // No abbreviation has the code 0.
     sizes.push(None)?;
     for code in 1..MOST_CODES {
-        let Some(abbrev) = table.find(code) else {
+        let Some(abbrev) = table.find(AbbreviationCode::new(code)) else {
             return Ok(sizes);
         };
         sizes.push(whole_size(abbrev.specs.as_slice()))?;
@@ -91,7 +91,7 @@ impl SizedTable {
 
     /// The abbreviation with a code, or None exactly where the table has none.
     #[inline]
-    pub fn find(&self, code: u64) -> Option<&Abbrev>
+    pub fn find(&self, code: AbbreviationCode) -> Option<&Abbrev>
         ensures { option_copied result ≡ abbrev_of self.now code }
     {
         self.table.find(code)
@@ -100,10 +100,10 @@ impl SizedTable {
     /// The size in bytes of the values of an entry with this code, if the forms of its abbreviation have fixed sizes. None does not
     /// rule that out.
     #[inline]
-    pub fn size(&self, code: u64) -> Option<u16>
+    pub fn size(&self, code: AbbreviationCode) -> Option<u16>
         ensures { IfSome result (IsSizeIn self.now code) }
     {
-        match self.sizes.get(code as usize) {
+        match self.sizes.get(code.get() as usize) {
             Some(size) => *size,
             None => None,
         }

@@ -38,12 +38,12 @@ pub fn entries<'u, 'a>(unit: &'u Unit<'a>) -> Entries<'u, 'a>
     };
     Entries {
         unit,
-        at: (unit.offset + header) as usize,
+        at: (unit.offset.get() + header) as usize,
         lists: None,
         met: false,
         effort: Effort::for_bytes(
             Limit::Attributes,
-            unit.end.saturating_sub(unit.offset) as usize,
+            unit.end.get().saturating_sub(unit.offset.get()) as usize,
         ),
     }
 }

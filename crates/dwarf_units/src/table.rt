@@ -6,6 +6,7 @@ ghost use Rattle.dwarf_units.specs.KeptTables.{IsKept, IsTable};
 
 use crate::sizes::SizedTable;
 use abi_base::{Effort, Limit, NoMemory, Refusal};
+use dwarf_forms::DebugAbbrevOffset;
 use dwarf_forms::abbreviations::table;
 use std::alloc::Global;
 use std::collections::HashMap;
@@ -43,7 +44,7 @@ impl Tables {
 fn keep(
     alloc: Global,
     abbrevs: &[u8],
-    at: u64,
+    at: DebugAbbrevOffset,
     table: Rc<SizedTable>,
     tables: &mut Tables,
 ) -> Result<(), NoMemory>
@@ -59,11 +60,11 @@ fn keep(
     tables.room = tables.room.saturating_sub(size);
     match &mut tables.kept {
         Some(kept) => {
-            kept.insert(at, table)?;
+            kept.insert(at.get(), table)?;
         }
         None => {
             let mut kept = HashMap::new(alloc);
-            kept.insert(at, table)?;
+            kept.insert(at.get(), table)?;
             tables.kept = Some(kept);
         }
     }
@@ -74,7 +75,7 @@ fn keep(
 fn read_table(
     alloc: Global,
     abbrevs: &[u8],
-    at: u64,
+    at: DebugAbbrevOffset,
     tables: &mut Tables,
 ) -> Result<Rc<SizedTable>, Refusal>
     requires { IsKept abbrevs.now tables.old }
@@ -94,7 +95,7 @@ fn read_table(
 pub fn table_in(
     alloc: Global,
     abbrevs: &[u8],
-    at: u64,
+    at: DebugAbbrevOffset,
     tables: &mut Tables,
 ) -> Result<Rc<SizedTable>, Refusal>
     requires { IsKept abbrevs.now tables.old }
@@ -103,7 +104,7 @@ pub fn table_in(
     ensures kept { IsKept abbrevs.now tables.new }
 {
     let found = match &tables.kept {
-        Some(kept) => kept.get(&at),
+        Some(kept) => kept.get(&at.get()),
         None => None,
     };
     match found {

@@ -16,7 +16,8 @@ use abi_base::dwarf::{
     DW_LANG_Mips_Assembler, DW_TAG_compile_unit, DW_TAG_partial_unit, DW_TAG_type_unit,
 };
 use abi_base::{Fault, FaultKind, Refusal, uleb};
-use dwarf_forms::Value;
+use dwarf_forms::abbreviations::AbbreviationCode;
+use dwarf_forms::{DebugInfoOffset, Value};
 use std::alloc::Global;
 
 /// An entry, the end of a list of siblings, or the unit's end, with the offset after it and the number of open sibling lists.
@@ -59,7 +60,7 @@ fn entry_in<'u, 'a>(
     unit: &'u Unit<'a>,
     at: usize,
     depth: u32,
-    code: u64,
+    code: AbbreviationCode,
     after: usize,
 ) -> Result<(Outline<'u, 'a>, (bool, usize)), Fault>
     ensures { result ≡ entry_at (plain_unit unit.now) at depth (code, after) }
@@ -75,7 +76,7 @@ fn entry_in<'u, 'a>(
             Outline {
                 unit,
                 form,
-                offset: at as u64,
+                offset: DebugInfoOffset::new(at as u64),
                 depth,
                 values: after,
             },
@@ -147,13 +148,13 @@ fn root_in<'u, 'a>(alloc: Global, unit: &'u Unit<'a>, at: usize) -> Result<Token
     requires { at < unit.now.end }
     ensures { IsToken (plain_unit unit.now) (at, None) result }
 {
-    let Some((code, after)) = uleb(&unit.info[..unit.end as usize], at) else {
+    let Some((code, after)) = uleb(&unit.info[..unit.end.get() as usize], at) else {
         return Err(cut(at));
     };
     if code == 0 {
         return Err(tree(at));
     }
-    match entry_in(unit, at, 0, code, after) {
+    match entry_in(unit, at, 0, AbbreviationCode::new(code), after) {
         Ok((entry, (children, after))) => {
             if !has_root_tag(unit, entry.tag()) {
                 return Err(tree(at));
@@ -184,7 +185,7 @@ fn inner_in<'u, 'a>(unit: &'u Unit<'a>, at: usize, lists: u32) -> Result<Token<'
     requires few { lists ≤ at }
     ensures { IsToken (plain_unit unit.now) (at, Some lists) result }
 {
-    let Some((code, after)) = uleb(&unit.info[..unit.end as usize], at) else {
+    let Some((code, after)) = uleb(&unit.info[..unit.end.get() as usize], at) else {
         return Err(cut(at));
     };
     if code == 0 {
@@ -193,7 +194,7 @@ fn inner_in<'u, 'a>(unit: &'u Unit<'a>, at: usize, lists: u32) -> Result<Token<'
             lists: lists - 1,
         });
     }
-    match entry_in(unit, at, lists, code, after) {
+    match entry_in(unit, at, lists, AbbreviationCode::new(code), after) {
         Ok((entry, (children, after))) => Ok(Token::Given {
             entry,
             at: after,
@@ -215,7 +216,7 @@ pub fn token_in<'u, 'a>(
     requires { open_lists lists ≤ at }
     ensures { IsToken (plain_unit unit.now) (at, lists) result }
 {
-    let inside = (at as u64) < unit.end;
+    let inside = (at as u64) < unit.end.get();
     match lists {
         None => {
             if inside {

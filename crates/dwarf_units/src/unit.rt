@@ -4,6 +4,7 @@ ghost use Rattle.abi_base.specs.Limits.{input_limit};
 ghost use Rattle.dwarf_units.specs.Units.{header_size_of};
 
 use crate::sizes::SizedTable;
+use dwarf_forms::DebugInfoOffset;
 use std::rc::Rc;
 
 /// A unit of `.debug_info` (DWARF 5, section 7.5.1 "Unit Headers") whose header and abbreviations have no fault. Offsets
@@ -11,9 +12,9 @@ use std::rc::Rc;
 #[derive(Drop)]
 pub struct Unit<'a> {
     /// The offset of its header.
-    pub offset: u64,
+    pub offset: DebugInfoOffset,
     /// The offset of the next unit.
-    pub end: u64,
+    pub end: DebugInfoOffset,
     /// The DWARF version: 4 or 5.
     pub version: u16,
     /// Whether it is a partial unit. In version 4 the tag of its root decides, if the root has no fault.
@@ -21,7 +22,7 @@ pub struct Unit<'a> {
     /// Its signature, if it is a type unit.
     pub signature: Option<u64>,
     /// The offset of its type's entry, or 0 where it is not a type unit.
-    pub type_entry: u64,
+    pub type_entry: DebugInfoOffset,
     /// Its abbreviations, shared among the units with the same table.
     pub table: Rc<SizedTable>,
     /// The whole of `.debug_info`.

@@ -8,7 +8,7 @@ ghost use Rattle.dwarf_units.specs.Units.{values_at};
 
 use crate::unit::Unit;
 use abi_base::{Fault, List, Refusal};
-use dwarf_forms::abbreviations::{Abbrev, Spec};
+use dwarf_forms::abbreviations::{Abbrev, AbbreviationCode, Spec};
 use dwarf_forms::{UnitSpan, Value, fixed_end, value, value_end};
 use std::alloc::Global;
 
@@ -17,8 +17,8 @@ fn value_in(unit: &Unit<'_>, spec: Spec, entry: u64, at: usize) -> Result<(Value
     ensures { result ≡ value_at spec.form spec.implicit unit.now.offset unit.now.end entry unit.now.info.now at }
 {
     let span = UnitSpan {
-        start: unit.offset,
-        end: unit.end,
+        start: unit.offset.get(),
+        end: unit.end.get(),
     };
     value(unit.info, span, entry, spec, at)
 }
@@ -56,9 +56,9 @@ fn values_end(unit: &Unit<'_>, entry: u64, specs: &[Spec], at: usize) -> Result<
 {
     let mut place = at;
     for spec in specs {
-        match fixed_end(spec.form, unit.end, place) {
+        match fixed_end(spec.form, unit.end.get(), place) {
             Some(after) => place = after,
-            None => match value_end(spec.form, unit.end, entry, unit.info, place) {
+            None => match value_end(spec.form, unit.end.get(), entry, unit.info, place) {
                 Ok(after) => place = after,
                 Err(fault) => return Err(fault),
             },
@@ -73,7 +73,7 @@ fn values_end(unit: &Unit<'_>, entry: u64, specs: &[Spec], at: usize) -> Result<
 pub fn entry_end(
     unit: &Unit<'_>,
     entry: u64,
-    code: u64,
+    code: AbbreviationCode,
     form: &Abbrev,
     at: usize,
 ) -> Result<usize, Fault>
@@ -81,7 +81,7 @@ pub fn entry_end(
     ensures { result ≡ place_after (values_at (plain_unit unit.now) entry form.now.specs at) }
 {
     match unit.table.size(code) {
-        Some(size) if unit.end.saturating_sub(at as u64) >= u64::from(size) => {
+        Some(size) if unit.end.get().saturating_sub(at as u64) >= u64::from(size) => {
             Ok(at + usize::from(size))
         }
         _ => values_end(unit, entry, form.specs.as_slice(), at),

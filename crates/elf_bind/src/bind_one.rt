@@ -12,7 +12,7 @@ use abi_types::Export;
 /// The index of the first version of a library. Symbols that were linked before a library had versions bind to it.
 pub const FIRST_VERSION: u16 = 2;
 
-/// Whether two names are equal, or there is none on either side.
+/// Whether two names are equal, or both are missing.
 pub fn same_name(one: Option<&[u8]>, other: Option<&[u8]>) -> bool
     ensures same { result ≡ exports.same_name (option_copied one.entry) (option_copied other.entry) }
     ensures equal { IsTrue result ↔ (option_copied one.entry ≡ option_copied other.entry) }

@@ -4,8 +4,8 @@ ghost use Rattle.elf_bind.specs.NameOrder as spec;
 
 use std::hash::{FoldHasher, Hasher};
 
-/// The hash code of a name. A key of a tree has it before the name, so that hardly any comparison of two keys reads the names.
-/// Where many names have one code, the names decide.
+/// The hash code of a name. A key of a tree has it before the name, so few comparisons of two keys read the names. If names have
+/// the same code, the names decide.
 #[tactic(auto, unfolding(crate::specs::NameOrder::code_of))]
 pub fn code_of(name: &[u8]) -> u64
     ensures { result ≡ spec.code_of name.now }

@@ -31,7 +31,7 @@ fn stood_before<'a>(
     Ok(!is_new)
 }
 
-/// The fault of the first export of the name and the version of an earlier one.
+/// The fault of the first export that has the name and the version of an earlier one.
 pub fn duplicate_fault(alloc: Global, exports: &[Export]) -> Result<Option<Fault>, AllocError>
     ensures { IfOk result (λ fault. fault ≡ first (duplicate_faults [] (plain_exports exports.now))) }
 {

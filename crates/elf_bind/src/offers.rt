@@ -22,7 +22,7 @@ pub struct Offers<'a> {
     pub unversioned: BTreeMap<(u64, &'a [u8]), usize>,
     /// The first place of each name among those of the first version.
     pub first_version: BTreeMap<(u64, &'a [u8]), usize>,
-    /// The place of the only one of each name whose version is the default one, or that there are several.
+    /// For each name, the place of the export whose version is the default one; None if there are several.
     pub defaults: BTreeMap<(u64, &'a [u8]), Option<usize>>,
 }
 

@@ -46,7 +46,7 @@ fn keep_first_version<'a>(
     Ok(())
 }
 
-// What stands under a name after one more place, by whether there was one before.
+// The value of a name after one more place: that place if it is the first one, else None.
 fn only_after(is_there: bool, place: usize) -> Option<usize>
     ensures { result ≡ (if is_there then None else Some place) }
 {
@@ -168,7 +168,7 @@ pub fn places_of_first_version<'a>(
     Ok(places)
 }
 
-/// The place of the only export of each name whose version is the default one, or that there are several.
+/// For each name, the place of the export whose version is the default one; None if there are several.
 pub fn places_of_default_versions<'a>(
     alloc: Global,
     offered: &[Export<'a>],

@@ -3,6 +3,7 @@ ghost use Rattle.std.specs.Prelude.{◌≡◌, ◌<◌, length, IfSome};
 ghost use Rattle.entry_places.specs.Coordinates as spec;
 
 use crate::values::{if_given, number_of};
+use dwarf_forms::DebugInfoOffset;
 use dwarf_tree::Tree;
 
 // Attributes of declaration coordinates (DWARF 5, section 7.5.4 "Attribute Encodings").
@@ -22,7 +23,7 @@ pub(crate) struct Coordinates {
 
 // The declaration coordinates of the entry at an offset.
 #[tactic(auto, unfolding(crate::specs::Coordinates::coordinates_of))]
-pub(crate) fn coordinates_of(tree: &Tree<'_>, offset: u64) -> Option<Coordinates>
+pub(crate) fn coordinates_of(tree: &Tree<'_>, offset: DebugInfoOffset) -> Option<Coordinates>
     ensures said { result ≡ spec.coordinates_of tree.now offset }
     ensures inside { IfSome result (λ c. c.unit < length tree.now.units) }
 {

@@ -10,7 +10,7 @@ use crate::place::DeclarationPlace;
 use crate::roots::{DW_AT_comp_dir, line_program, of_root};
 use abi_base::{NoMemory, Refusal, text_at};
 use dwarf_files::{LineSections, file_name, join};
-use dwarf_forms::{Sections, Value};
+use dwarf_forms::{DebugInfoOffset, Sections, Value};
 use dwarf_tree::{Tree, read_tree};
 use std::alloc::Global;
 use std::marker::Model;
@@ -84,10 +84,10 @@ impl<'a> EntryPlaces<'a> {
     fn text(&self, value: Option<Value>) -> Option<&'a [u8]>
         ensures { option_copied result ≡ text_of self.now value }
     {
-        match value {
-            Some(Value::Inline { from }) => text_at(self.info, from),
-            Some(Value::StrOffset(place)) => text_at(self.lines.str, place),
-            Some(Value::LineOffset(place)) => text_at(self.lines.line_str, place),
+        match &value {
+            Some(Value::Inline { from }) => text_at(self.info, *from),
+            Some(Value::StrOffset(place)) => text_at(self.lines.str, place.get()),
+            Some(Value::LineOffset(place)) => text_at(self.lines.line_str, place.get()),
             _ => None,
         }
     }
@@ -126,7 +126,11 @@ impl<'a> EntryPlaces<'a> {
     ///
     /// A relative name is prefixed with the directory in which the unit was compiled, if the debug information gives it.
     #[tactic(auto, unfolding(crate::specs::Coordinates::place_of))]
-    pub fn place_of(&self, alloc: Global, offset: u64) -> Result<Option<DeclarationPlace>, NoMemory>
+    pub fn place_of(
+        &self,
+        alloc: Global,
+        offset: DebugInfoOffset,
+    ) -> Result<Option<DeclarationPlace>, NoMemory>
         ensures { IfOk result (λ place. option_map plain_place place ≡ spec.place_of self.now offset) }
     {
         let Some(said) = coordinates_of(&self.tree, offset) else {

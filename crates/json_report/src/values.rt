@@ -63,7 +63,7 @@ fn push_value(alloc: Global, text: &mut Vec<u8>, value: &Value) -> Result<(), No
     }
 }
 
-/// Appends the part of which the rule speaks, and the old and the new value.
+/// Appends the part that the rule is about, and the old and the new value.
 #[tactic(auto, unfolding(crate::specs::Breaks::values_text))]
 pub(crate) fn push_values(alloc: Global, text: &mut Vec<u8>, row: &Row) -> Result<(), NoMemory>
     ensures { OnOk result (text.new.items ≡ text.old.items ++ values_text row.now) }

@@ -18,6 +18,9 @@ use pair_rules::Triple;
 use pair_rules::laws::steps_lead_to_nodes;
 use std::alloc::Global;
 
+// What a root takes, in bytes of effort. It is looked up, which takes as long as to read so many marks.
+const ROOT: usize = 16;
+
 // Whether a visit is of two types, and its old node is unmarked at its way.
 fn is_of_pair(ground: &GraphPair, old: OldIx, new: NewIx, visit: &Visit) -> bool
     ensures { result ≡ spec.is_of_pair (scope_of ground.now) old new visit.now }
@@ -78,7 +81,8 @@ fn leads_of(alloc: Global, walk: &Walk, marks: &[bool]) -> Result<List<u32>, NoM
 }
 
 /// The exports that lead to two types, in ascending order; `arrows` are those that `arrows_of` returned. It takes one byte's effort
-/// for each visit and each arrow, and for each arrow again in each pass except the last. Where less is left, it returns `NoMemory`.
+/// for each visit and each arrow, 16 for each root, and one for each arrow again in each pass except the last. If less is left, it
+/// returns `NoMemory`.
 pub fn exports_to(
     alloc: Global,
     walk: &Walk,
@@ -95,6 +99,7 @@ pub fn exports_to(
     let (old, new) = pair;
     effort.spend(walk.visits.len())?;
     effort.spend(arrows.len())?;
+    effort.spend(walk.ground.roots.len().saturating_mul(ROOT))?;
     let mut marks = marks_of(alloc, walk, old, new)?;
     mark_leading(arrows, marks.as_mut_slice(), effort)?;
     leads_of(alloc, walk, marks.as_slice())

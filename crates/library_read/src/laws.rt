@@ -1,4 +1,4 @@
-//! What the definitions of libraries come to. Each law is the contract of a function that does nothing.
+//! Laws about the definition of a library. Each law is the contract of a function that does nothing.
 ghost use Rattle.std.specs.Prelude.{◌≡◌, ◌∷◌, ◌≤◌, ℕ, List, [], length, All, None};
 ghost use Rattle.abi_base.specs.Limits.{input_limit};
 ghost use Rattle.abi_types.specs.Calls.{IsSameButCall};
@@ -21,8 +21,8 @@ use psabi::laws::{given_calls_are_right, given_calls_have_places};
 use type_graph::laws::{the_nodes_are_a_graph, the_nodes_stand_for_the_reached};
 use type_reach::laws::laws_of_types;
 
-/// In a file without a fault the entry of each export is that of a node, which is void where the export has none; the exports
-/// stand in order of their symbols; and the call of each function has a place for each of its parameters.
+/// In a file without a fault the entry of each export is that of a node, which is void if the export has none; the exports are
+/// in order of their symbols; and the call of each function has a place for each of its parameters.
 pub fn readable_files_are_libraries()
     ensures { (f : List ℕ) → length f ≤ input_limit → library_fault f ≡ None → IsLibrary (typed_exports_of f) (graph_of f) }
 {

@@ -81,9 +81,9 @@ fn library_with<'a, Ix: Index>(
 }
 
 /// The library that a file is. The fault is the first one of its header and sections, of its symbols, of its dynamic table, of
-/// its versions, of its exports, of its units and entries, and of the types that its exports reach. The library keeps names
-/// where they stand in the bytes, and nothing else of the debug information. Types that have more parts or longer names than a
-/// file of its size may have, and exports that are declared under longer names, count as no memory.
+/// its versions, of its exports, of its units and entries, and of the types that its exports reach. Names are slices of the file;
+/// nothing else of the debug information is kept. Returns `NoMemory` past a limit, too: the types may have too many parts or too
+/// long names for the size of the file, and the names under which exports are declared may be too long.
 pub fn read_library<'a, Ix: Index>(
     alloc: Global,
     bytes: &'a [u8],

@@ -1,4 +1,4 @@
-// What the symbols of a file say of it: its soname and its exports.
+// The soname and the exports of a file, from its dynamic table and its symbols.
 ghost use Rattle.std.specs.Prelude.{◌≡◌, ◌∷◌, [], length, map, IfOk};
 ghost use Rattle.std.specs.List.{range_with_len};
 ghost use Rattle.std.specs.Option.{option_copied};
@@ -20,7 +20,7 @@ use elf::versions::versions;
 use elf_bind::exports;
 use std::alloc::Global;
 
-/// What the symbols of a file say of it.
+/// The soname and the exports of a file.
 #[derive(Drop)]
 pub(crate) struct Listing<'a> {
     /// The soname, where there is one.

@@ -1,5 +1,5 @@
-// How much the types of a library may hold, where each type counts all that it is compared by. A small file may ask for very much:
-// each typedef of a structure is compared by all of its members, and names may share their bytes.
+// Limits on the parts of a library's types and on the letters of their names. Each type counts all parts by which it is compared. A
+// small file can have very many: each typedef of a structure is compared by all of its members, and names may share their bytes.
 use abi_base::{Limit, NoMemory, taken};
 use abi_types::{Graph, Index, Label, Part, View};
 

@@ -13,6 +13,7 @@ ghost use Rattle.library_read.specs.Faults.{debug_fault};
 use abi_base::{Effort, List, NoMemory, Refusal};
 use abi_types::{Export, Graph, Index, SymbolKind};
 use dwarf_entries::{Dwarf, tree};
+use dwarf_tree::EntryNumber;
 use elf::file::ElfFile;
 use elf::sections::debug_sections;
 use std::alloc::Global;
@@ -37,9 +38,9 @@ fn has_address(export: &Export) -> bool
     }
 }
 
-// The position of the entry that says what an export is, where there is one.
+// The entry that says what an export is, where there is one.
 #[tactic(auto, unfolding(crate::specs::Exports::entry_for))]
-fn entry_for(dwarf: &Dwarf, export: &Export) -> Option<usize>
+fn entry_for(dwarf: &Dwarf, export: &Export) -> Option<EntryNumber>
     ensures entry { result ≡ exports_spec.entry_for dwarf.now (plain_export export.now) }
     ensures inside { IfSome result (λ e. e < length dwarf.now.tree.entries) }
 {
@@ -51,7 +52,7 @@ fn entry_for(dwarf: &Dwarf, export: &Export) -> Option<usize>
 }
 
 // The name under which an export is declared, by its entry, or else that of its symbol.
-fn declared_by<'a>(dwarf: &Dwarf<'a>, symbol: &'a [u8], entry: Option<usize>) -> &'a [u8]
+fn declared_by<'a>(dwarf: &Dwarf<'a>, symbol: &'a [u8], entry: Option<EntryNumber>) -> &'a [u8]
     requires { IfSome entry (λ e. e < length dwarf.now.tree.entries) }
     ensures { result.now ≡ exports_spec.declared_by dwarf.now symbol.now entry }
 {
@@ -65,12 +66,12 @@ fn declared_by<'a>(dwarf: &Dwarf<'a>, symbol: &'a [u8], entry: Option<usize>) ->
 }
 
 // The offset of an entry, and 0 where there is none.
-fn offset_of(dwarf: &Dwarf, entry: Option<usize>) -> u64
+fn offset_of(dwarf: &Dwarf, entry: Option<EntryNumber>) -> u64
     requires { IfSome entry (λ e. e < length dwarf.now.tree.entries) }
     ensures { result ≡ views.offset_of dwarf.now.tree entry }
 {
     match entry {
-        Some(e) => dwarf.offset(e),
+        Some(e) => dwarf.offset(e).get(),
         None => 0,
     }
 }
@@ -81,9 +82,10 @@ fn with_type<'a>(dwarf: &Dwarf<'a>, export: &Export<'a>) -> Export<'a>
     ensures { plain_export result ≡ exports_spec.typed dwarf.now (plain_export export.now) }
 {
     let entry = entry_for(dwarf, export);
+    let wanted = &entry;
     Export {
-        declared: declared_by(dwarf, export.name, entry),
-        entry: offset_of(dwarf, entry),
+        declared: declared_by(dwarf, export.name, *wanted),
+        entry: offset_of(dwarf, *wanted),
         ..*export
     }
 }
@@ -105,9 +107,13 @@ fn typed_exports<'a>(
     Ok(List::of(exports))
 }
 
-// The positions of the entries of exports, in the order of the exports.
+// The entries of exports, in the order of the exports.
 #[tactic(auto, unfolding(crate::specs::Exports::roots_among))]
-fn roots_among(alloc: Global, dwarf: &Dwarf, exports: &[Export]) -> Result<Vec<usize>, NoMemory>
+fn roots_among(
+    alloc: Global,
+    dwarf: &Dwarf,
+    exports: &[Export],
+) -> Result<Vec<EntryNumber>, NoMemory>
     ensures roots { IfOk result (λ roots. roots.items ≡ exports_spec.roots_among dwarf.now (plain_exports exports.now)) }
     ensures inside { IfOk result (λ roots. All (λ root. root < length dwarf.now.tree.entries) roots.items) }
 {
@@ -151,10 +157,9 @@ fn types_in<'a, Ix: Index>(
     Ok(Typed { exports, graph })
 }
 
-/// The exports of a file with their types, beside its debug information. The fault is the first one of its units and entries, and
-/// then of the types that the exports reach. The types and names stand on their own: the debug information may be freed before
-/// them. Past a limit, or where the names under which exports are declared take more than `letters`, the answer is that memory ran
-/// out.
+/// The exports of a file with their types, and its debug information. The fault is the first one of its units and entries, and
+/// then of the types that the exports reach. The types and names borrow nothing from the debug information, which may be freed
+/// before them. Returns `NoMemory` past a limit, too, and if the names under which exports are declared take more than `letters`.
 #[tactic(auto, unfolding(crate::specs::Faults::debug_fault))]
 pub(crate) fn with_types<'a, Ix: Index>(
     alloc: Global,

@@ -1,127 +1,108 @@
--- Triples and what led to them, as visits.
-use Rattle.std.proofs.Common.{◌≡◌, ◌==◌, ◌&&◌, ℕ, Bool, true, false, zero, suc, List, [], ◌∷◌, ◌++◌, length, slice_get, get_or, ltb, Some, None, not, refl, sym, ◌∙◌, ap, inl, inr, arith}
+-- The keys of visited triples, as one more visit is added.
+use Rattle.std.proofs.Common.{◌≡◌, ◌==◌, ◌&&◌, ℕ, Bool, true, false, cond, List, [], ◌∷◌, ◌++◌, not, refl, sym, ◌∙◌, ap, inl, inr}
+use Rattle.std.specs.Prelude.{◌||◌}
+use Rattle.std.specs.BTreeSet.{BTreeSet, IsEmpty, IsUnchanged, contains}
+use Rattle.std.specs.Bool.{OnFalse, beq}
+use Rattle.std.specs.Cmp.{both_tied, nat_eq_equiv, unsigned_ties}
 use Rattle.std.specs.List.{list_any}
-use Rattle.std.proofs.lemmas.Bool.{cases_Bool, false≢true, ltb-true, lt-ltb, not-true}
-use Rattle.std.proofs.lemmas.Option.{slice_get_read, slice_get_within, same_Some, none-some}
-use Rattle.indexmap.specs.IndexSet.{insert_key}
-use Rattle.abi_types.specs.declared.kind.Way.{Way}
-use Rattle.abi_types.specs.declared.kind.Way.TheVariants.{Direct, Pointer}
-use Rattle.pair_rules.specs.Steps.{Triple}
-use Rattle.pair_explorer.specs.declared.visits.Parent.{Parent}
+use Rattle.std.specs.Ordering.{bool_cmp, is_eq, nat_cmp, ordering_then}
+use Rattle.std.proofs.lemmas.Bool.{cases_Bool}
+use Rattle.std.proofs.lemmas.List.Folds.{list_any-append}
+use Rattle.pair_rules.specs.Steps.{Triple, is_pointer}
 use Rattle.pair_explorer.specs.declared.visits.Visit.{Visit}
-use Rattle.pair_explorer.specs.Visits.{seen, same_triple, has}
-use Rattle.pair_explorer.specs.Keys.{at_triple, visit_made, visits_of}
 use Rattle.pair_explorer.specs.Adding.{added}
+use Rattle.pair_explorer.specs.Keys.{AreKnown, Key, key_cmp, key_of}
+use Rattle.pair_explorer.specs.Visits.{has, same_triple, same_way, seen}
 
-and-assoc : (a b c : Bool) → (a && (b && c)) ≡ ((a && b) && c)
-and-assoc true b c = refl
-and-assoc false b c = refl
+-- ---- equal keys
 
-at_triple-made : (a b : ℕ) (v : Way) (c d : ℕ) (w : Way) → at_triple (record { old = a; new = b; way = v }) (record { old = c; new = d; way = w }) ≡ same_triple (record { old = a; new = b; way = v }) (record { old = c; new = d; way = w })
-at_triple-made a b Direct c d Direct = and-assoc (a == c) (b == d) true
-at_triple-made a b Direct c d Pointer = and-assoc (a == c) (b == d) false
-at_triple-made a b Pointer c d Direct = and-assoc (a == c) (b == d) false
-at_triple-made a b Pointer c d Pointer = and-assoc (a == c) (b == d) true
+bool_tied : (a b : Bool) → beq a b ≡ is_eq (bool_cmp a b)
+bool_tied true true = refl
+bool_tied true false = refl
+bool_tied false true = refl
+bool_tied false false = refl
 
-at_triple-is : (x y : Triple) → at_triple x y ≡ same_triple x y
-at_triple-is x y = at_triple-made x.old x.new x.way y.old y.new y.way
+beq-turned : (a b : Bool) → beq a b ≡ beq b a
+beq-turned true true = refl
+beq-turned true false = refl
+beq-turned false true = refl
+beq-turned false false = refl
 
-visits_of-none : visits_of [] [] ≡ []
-unfolding visits_of
-visits_of-none = refl
+-- keys compare equal exactly where their triples are the same
+key_tied : (x y : Triple) → same_triple x y ≡ is_eq (key_cmp (key_of x) (key_of y))
+key_tied x y =
+    both_tied (x.old == y.old && x.new == y.new) (same_way x.way y.way) (ordering_then (nat_cmp x.old y.old) (nat_cmp x.new y.new)) (bool_cmp (is_pointer x.way) (is_pointer y.way))
+    (both_tied (x.old == y.old) (x.new == y.new) (nat_cmp x.old y.old) (nat_cmp x.new y.new) (unsigned_ties x.old y.old) (unsigned_ties x.new y.new)) (bool_tied (is_pointer x.way) (is_pointer y.way))
 
-pub length-visits_of : (xs : List Triple) (ps : List Parent) → length xs ≡ length ps → length (visits_of xs ps) ≡ length ps
-unfolding visits_of
-length-visits_of [] [] same = refl
-length-visits_of [] (p ∷ ps) same = absurd (let e : 0 ≡ suc (length ps) = same in omega arith)
-length-visits_of (x ∷ xs) [] same = absurd (let e : suc (length xs) ≡ 0 = same in omega arith)
-length-visits_of (x ∷ xs) (p ∷ ps) same = ap suc (length-visits_of xs ps (let e : suc (length xs) ≡ suc (length ps) = same in omega arith))
+same_triple-turned : (x y : Triple) → same_triple x y ≡ same_triple y x
+same_triple-turned x y =
+    ap (λ (b : Bool). b && x.new == y.new && same_way x.way y.way) (nat_eq_equiv.symm x.old y.old)
+    ∙ ap (λ (b : Bool). y.old == x.old && b && same_way x.way y.way) (nat_eq_equiv.symm x.new y.new)
+    ∙ ap (λ (b : Bool). y.old == x.old && y.new == x.new && b) (beq-turned (is_pointer x.way) (is_pointer y.way))
 
--- the visit of a number
-visit_some : (xs : List Triple) (ps : List Parent) (n : ℕ) (x : Triple) (p : Parent) → slice_get xs n ≡ Some x → slice_get ps n ≡ Some p → slice_get (visits_of xs ps) n ≡ Some (visit_made x p)
-unfolding visits_of
-visit_some [] ps n x p is_x is_p = absurd (none-some x is_x)
-visit_some (y ∷ xs) [] n x p is_x is_p = absurd (none-some p is_p)
-visit_some (y ∷ xs) (q ∷ ps) zero x p is_x is_p = ap (λ z. Some (visit_made z q)) (same_Some y x is_x) ∙ ap (λ z. Some (visit_made x z)) (same_Some q p is_p)
-visit_some (y ∷ xs) (q ∷ ps) (suc n) x p is_x is_p = visit_some xs ps n x p is_x is_p
+-- ---- one more visit
 
-visit_none : (xs : List Triple) (ps : List Parent) (n : ℕ) → slice_get xs n ≡ None → slice_get (visits_of xs ps) n ≡ None
-unfolding visits_of
-visit_none [] ps n none = refl
-visit_none (y ∷ xs) [] n none = refl
-visit_none (y ∷ xs) (q ∷ ps) zero none = absurd (none-some y (sym none))
-visit_none (y ∷ xs) (q ∷ ps) (suc n) none = visit_none xs ps n none
+not_true : (b : Bool) → true ≡ not b → b ≡ false
+not_true true e = absurd cc
+not_true false e = refl
 
--- the same, as the code reads it
-pub visit_read : (vs : List Visit) (xs : List Triple) (ps qs : List Parent) (n : ℕ) (x y : Triple) (p : Parent) → visits_of xs ps ≡ vs → x ≡ y → Some y ≡ slice_get xs n → qs ≡ ps → true ≡ ltb n (length qs) → p ≡ get_or qs n p → Some (visit_made x p) ≡ slice_get vs n
-visit_read vs xs ps qs n x y p is same at_x parents inside at_p =
-    let at : slice_get ps n ≡ Some p = ap (λ (rs : List Parent). slice_get rs n) (sym parents) ∙ slice_get_read qs (length qs) n p refl (ltb-true n (length qs) (sym inside)) at_p in
-    ap (λ z. Some (visit_made z p)) same ∙ sym (visit_some xs ps n y p (sym at_x) at) ∙ ap (λ (us : List Visit). slice_get us n) is
+not_false : (b : Bool) → false ≡ not b → b ≡ true
+not_false true e = refl
+not_false false e = absurd cc
 
-pub visit_unread : (vs : List Visit) (xs : List Triple) (ps : List Parent) (n : ℕ) → visits_of xs ps ≡ vs → None ≡ slice_get xs n → None ≡ slice_get vs n
-visit_unread vs xs ps n is none = sym (visit_none xs ps n (sym none)) ∙ ap (λ (us : List Visit). slice_get us n) is
+-- whether a triple is known after one that may be it
+either : (b c : Bool) → cond b true c ≡ (c || (b || false))
+either true true = refl
+either true false = refl
+either false true = refl
+either false false = refl
 
-pub visit_parted : (P : Type 0) (xs : List Triple) (ps qs : List Parent) (n : ℕ) (y : Triple) → length xs ≡ length ps → Some y ≡ slice_get xs n → qs ≡ ps → false ≡ ltb n (length qs) → P
-visit_parted P xs ps qs n y same at parents past =
-    let inside = slice_get_within xs n y (sym at) in
-    let many = ap length parents in
-    absurd (false≢true (past ∙ lt-ltb n (length qs) (omega arith)))
+pub AreKnown-none : (known : BTreeSet Key) (visits : List Visit) → IsEmpty known → visits ≡ [] → AreKnown known visits
+unfolding has
+AreKnown-none known visits empty none = rw none (record { each = λ x. ap (λ (ks : List Key). list_any (λ k. is_eq (key_cmp (key_of x) k)) ks) empty })
 
-pub visits_of-empty : (xs : List Triple) (ps : List Parent) → xs ≡ [] → ps ≡ [] → visits_of xs ps ≡ []
-visits_of-empty xs ps a b = ap (λ ys. visits_of ys ps) a ∙ ap (visits_of []) b ∙ visits_of-none
+-- what a set says after a key is put in
+abbrev pub Puts : BTreeSet Key → BTreeSet Key → Key → Type 0
+Puts known next key = (q : Key) → contains key_cmp next q ≡ cond (is_eq (key_cmp key q)) true (contains key_cmp known q)
 
--- a triple is there exactly where a visit of it is
-has_keyed : (xs : List Triple) (ps : List Parent) (x : Triple) → length xs ≡ length ps → list_any (at_triple x) xs ≡ has (visits_of xs ps) x
-unfolding has visits_of
-has_keyed [] [] x same = refl
-has_keyed [] (p ∷ ps) x same = absurd (let e : 0 ≡ suc (length ps) = same in omega arith)
-has_keyed (y ∷ xs) [] x same = absurd (let e : suc (length xs) ≡ 0 = same in omega arith)
-has_keyed (y ∷ xs) (p ∷ ps) x same =
-    elim (cases_Bool (at_triple x y)) [
-      | inl here ↦ let seen_here : same_triple x y ≡ true = sym (at_triple-is x y) ∙ here in rw (here, seen_here) refl
-      | inr other ↦ let seen_other : same_triple x y ≡ false = sym (at_triple-is x y) ∙ other in rw (other, seen_other) (has_keyed xs ps x (let e : suc (length xs) ≡ suc (length ps) = same in omega arith))
-    ]
+module _ (known next : BTreeSet Key) (v : Visit) (key : Key) (is_new : Bool) (is : key ≡ key_of (seen v)) (tells : is_new ≡ not (contains key_cmp known key)) (visits : List Visit) (were : AreKnown known visits) where
+  pub is_new-has : is_new ≡ not (has visits (seen v))
+  is_new-has = tells ∙ ap (λ (k : Key). not (contains key_cmp known k)) is ∙ ap not (were.each (seen v))
 
-pushed : (xs : List Triple) (ps : List Parent) (v : Visit) → length xs ≡ length ps → visits_of (xs ++ seen v ∷ []) (ps ++ v.parent ∷ []) ≡ visits_of xs ps ++ v ∷ []
-unfolding visits_of
-pushed [] [] v same = refl
-pushed [] (p ∷ ps) v same = absurd (let e : 0 ≡ suc (length ps) = same in omega arith)
-pushed (x ∷ xs) [] v same = absurd (let e : suc (length xs) ≡ 0 = same in omega arith)
-pushed (x ∷ xs) (p ∷ ps) v same = ap (λ (vs : List Visit). visit_made x p ∷ vs) (pushed xs ps v (let e : suc (length xs) ≡ suc (length ps) = same in omega arith))
+  module _ (puts : Puts known next key) (fresh : has visits (seen v) ≡ false) where
+    each_new : (x : Triple) → contains key_cmp next (key_of x) ≡ has (added visits v) x
+    unfolding has added
+    each_new x =
+        let turned : is_eq (key_cmp key (key_of x)) ≡ same_triple x (seen v) = ap (λ (k : Key). is_eq (key_cmp k (key_of x))) is ∙ sym (key_tied (seen v) x) ∙ same_triple-turned (seen v) x in
+        puts (key_of x) ∙ ap (λ (b : Bool). cond b true (contains key_cmp known (key_of x))) turned ∙ ap (λ (b : Bool). cond (same_triple x (seen v)) true b) (were.each x)
+        ∙ either (same_triple x (seen v)) (has visits x) ∙ sym (list_any-append (λ (u : Visit). same_triple x (seen u)) visits (v ∷ []))
+        ∙ ap (λ (b : Bool). has (cond b visits (visits ++ v ∷ [])) x) (sym fresh)
 
--- a triple that is new goes last, with what led to it
-added-new : (xs grown : List Triple) (ps more : List Parent) (v : Visit) → length xs ≡ length ps → true ≡ not (list_any (at_triple (seen v)) xs) → grown ≡ insert_key at_triple xs (seen v) → more ≡ ps ++ v.parent ∷ [] → visits_of grown more ≡ added (visits_of xs ps) v
+  pub AreKnown-put : OnFalse is_new (IsUnchanged known next) → Puts known next key → AreKnown next (added visits v)
+  unfolding added
+  AreKnown-put stays puts = go is_new is_new-has stays
+    where
+      there : (next.keys ≡ known.keys) → has visits (seen v) ≡ true → AreKnown next (added visits v)
+      there same old = record {
+        each = λ x.
+            ap (λ (ks : List Key). list_any (λ k. is_eq (key_cmp (key_of x) k)) ks) same ∙ were.each x
+            ∙ ap (λ (b : Bool). has (cond b visits (visits ++ v ∷ [])) x) (sym old);
+      }
+
+      go : (b : Bool) → b ≡ not (has visits (seen v)) → OnFalse b (IsUnchanged known next) → AreKnown next (added visits v)
+      go true e s = record { each = each_new puts (not_true (has visits (seen v)) e) }
+      go false e s = there s (not_false (has visits (seen v)) e)
+
+-- a new triple goes last
+pub added-new : (visits items reserved more : List Visit) (v : Visit) (is_new : Bool) → items ≡ visits → reserved ≡ items → is_new ≡ not (has items (seen v)) → is_new ≡ true → more ≡ reserved ++ v ∷ [] → more ≡ added visits v
 unfolding added
-added-new xs grown ps more v same new grows push =
-    let fresh : list_any (at_triple (seen v)) xs ≡ false = not-true (list_any (at_triple (seen v)) xs) (sym new) in
-    let none : has (visits_of xs ps) (seen v) ≡ false = sym (has_keyed xs ps (seen v) same) ∙ fresh in
-    let is : grown ≡ xs ++ seen v ∷ [] = grows ∙ rw fresh refl in
-    rw (none, is, push) (pushed xs ps v same)
+added-new visits items reserved more v is_new is kept tells so pushed =
+    let fresh : has visits (seen v) ≡ false = sym (ap (λ (us : List Visit). has us (seen v)) is) ∙ not_true (has items (seen v)) (sym so ∙ tells) in
+    pushed ∙ ap (λ (us : List Visit). us ++ v ∷ []) (kept ∙ is) ∙ ap (λ (b : Bool). cond b visits (visits ++ v ∷ [])) (sym fresh)
 
--- one that is there keeps what led to it
-added-there : (xs grown : List Triple) (ps after : List Parent) (v : Visit) → length xs ≡ length ps → false ≡ not (list_any (at_triple (seen v)) xs) → grown ≡ insert_key at_triple xs (seen v) → after ≡ ps → visits_of grown after ≡ added (visits_of xs ps) v
+-- one that is known changes nothing
+pub added-there : (visits items reserved : List Visit) (v : Visit) (is_new : Bool) → items ≡ visits → reserved ≡ items → is_new ≡ not (has items (seen v)) → is_new ≡ false → reserved ≡ added visits v
 unfolding added
-added-there xs grown ps after v same old grows kept =
-    let known : list_any (at_triple (seen v)) xs ≡ true = not-false' (list_any (at_triple (seen v)) xs) old in
-    let there : has (visits_of xs ps) (seen v) ≡ true = sym (has_keyed xs ps (seen v) same) ∙ known in
-    let is : grown ≡ xs = grows ∙ rw known refl in
-    rw (there, is, kept) refl
-  where
-    not-false' : (b : Bool) → false ≡ not b → b ≡ true
-    not-false' true e = refl
-    not-false' false e = absurd cc
-
--- the same, as the code adds
-module _ (vs : List Visit) (xs grown : List Triple) (ps kept : List Parent) (v : Visit) (x : Triple) (is_new : Bool) (is : visits_of xs ps ≡ vs) (same : length xs ≡ length ps) (of : x ≡ seen v) (tells : is_new ≡ not (list_any (at_triple x) xs)) (grows : grown ≡ insert_key at_triple xs x) (stays : kept ≡ ps) where
-  tells_of : (b : Bool) → is_new ≡ b → b ≡ not (list_any (at_triple (seen v)) xs)
-  tells_of b e = sym e ∙ tells ∙ ap (λ z. not (list_any (at_triple z) xs)) of
-
-  pub put-new : (more : List Parent) → is_new ≡ true → more ≡ kept ++ v.parent ∷ [] → visits_of grown more ≡ added vs v
-  put-new more new push =
-      added-new xs grown ps more v same (tells_of true new) (grows ∙ ap (insert_key at_triple xs) of) (push ∙ ap (λ (qs : List Parent). qs ++ v.parent ∷ []) stays)
-      ∙ ap (λ (us : List Visit). added us v) is
-
-  pub put-there : is_new ≡ false → visits_of grown kept ≡ added vs v
-  put-there old =
-      added-there xs grown ps kept v same (tells_of false old) (grows ∙ ap (insert_key at_triple xs) of) stays
-      ∙ ap (λ (us : List Visit). added us v) is
+added-there visits items reserved v is_new is kept tells not_so =
+    let old : has visits (seen v) ≡ true = sym (ap (λ (us : List Visit). has us (seen v)) is) ∙ not_false (has items (seen v)) (sym not_so ∙ tells) in
+    kept ∙ is ∙ ap (λ (b : Bool). cond b visits (visits ++ v ∷ [])) (sym old)

@@ -73,7 +73,7 @@ pub fn breaks_by_representatives()
     rules_see_no_nodes();
 }
 
-/// The breaks of an exploration stand in order of their visits, and those of one visit in the order of the rules.
+/// The breaks of an exploration are in order of their visits, and those of one visit in the order of the rules.
 pub fn breaks_are_told_in_order()
     ensures { (s : Scope) (visits : List Visit) (broken : List (ℕ × Broken)) (m n : ℕ) (p q : ℕ × Broken) → IsExploration s visits broken →
         m < n → slice_get broken m ≡ Some p → slice_get broken n ≡ Some q → IsToldBefore p q }

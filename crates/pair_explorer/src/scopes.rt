@@ -30,7 +30,7 @@ fn are_inside(old: &Graph<OldIx>, new: &Graph<NewIx>, roots: &[Root]) -> bool
     true
 }
 
-// Whether the roots stand in strictly ascending order of their exports.
+// Whether the roots are in strictly ascending order of their exports.
 fn are_ascending(roots: &[Root]) -> bool
     ensures { IsTrue result ↔ AreAscending roots.now }
 {

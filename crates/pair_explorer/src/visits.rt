@@ -1,16 +1,16 @@
-// The triples reached so far, in a set, so that one is found without a scan.
-ghost use Rattle.std.specs.Prelude.{◌≡◌, ◌<◌, [], not, length, slice_get, Some, OnOk, OnErr, IfOk};
-ghost use Rattle.std.specs.List.{list_any};
-ghost use Rattle.indexmap.specs.IndexSet.{insert_key};
+// The triples reached so far, in a search tree, so that one is found without a scan.
+ghost use Rattle.std.specs.Prelude.{◌≡◌, ◌<◌, List, [], not, length, slice_get, Some, OnOk, OnErr, IfOk};
+ghost use Rattle.pair_explorer.specs.declared.visits.Visit.{Visit as PlainVisit};
 ghost use Rattle.pair_explorer.specs.Adding.{added};
-ghost use Rattle.pair_explorer.specs.Keys.{at_triple};
-ghost use Rattle.pair_explorer.specs.Visits.{seen};
+ghost use Rattle.pair_explorer.specs.Keys.{AreKnown};
+ghost use Rattle.pair_explorer.specs.Keys as spec;
+ghost use Rattle.pair_explorer.specs.Visits.{has, seen};
 
 use abi_base::{Limit, NoMemory, taken};
-use abi_types::{NewIx, OldIx, View, Way};
-use indexmap::IndexSet;
+use abi_types::{Index, NewIx, OldIx, View, Way};
 use pair_rules::{PartBudget, Triple};
 use std::alloc::Global;
+use std::collections::BTreeSet;
 use std::marker::Model;
 
 /// What led to a triple.
@@ -62,9 +62,11 @@ pub(crate) struct VisitLimits {
 /// The visits of an exploration, each of a different triple, in the order in which they were made. Contracts see them as a list.
 #[derive(Drop)]
 pub struct Visits {
-    triples: IndexSet<Triple>,
-    // What led to each triple.
-    parents: Vec<Parent>,
+    // The visits.
+    list: Vec<Visit>,
+    // The keys of their triples. A file decides which types meet, and could make the hash codes of their triples collide, so they
+    // stand in a search tree.
+    known: BTreeSet<(usize, usize, bool)>,
     // The limit on visits, and what may still be compared and broken.
     limits: VisitLimits,
 }
@@ -75,11 +77,11 @@ impl Model for Visits {
 
     ghost Value = { List Visit };
 
-    ghost use Rattle.pair_explorer.specs.Keys.{visits_of};
+    ghost use Rattle.pair_explorer.specs.Keys.{AreKnown};
 
-    ghost view = { λ visits. visits_of visits.triples.keys visits.parents.items };
+    ghost view = { λ visits. visits.list.items };
 
-    ghost invariant = { λ visits. length visits.triples.keys ≡ length visits.parents.items };
+    ghost invariant = { λ visits. AreKnown visits.known visits.list.items };
 }
 
 // Fails once the limit on visits is reached.
@@ -93,13 +95,25 @@ fn ask_visit(count: usize, most: usize) -> Result<(), NoMemory>
     }
 }
 
-// Appends a triple if it is new, and returns whether it was.
-fn put(triples: &mut IndexSet<Triple>, triple: Triple) -> Result<bool, NoMemory>
-    ensures keys { OnOk result (triples.new.keys ≡ insert_key at_triple triples.old.keys triple) }
-    ensures is_new { IfOk result (λ is_new. is_new ≡ not (list_any (at_triple triple) triples.old.keys)) }
-    ensures err { OnErr result (triples.new.keys ≡ triples.old.keys) }
+// The key of a visit's triple.
+fn key_of(visit: &Visit) -> (usize, usize, bool)
+    ensures { result ≡ spec.key_of (seen visit.now) }
 {
-    let (_, is_new) = triples.insert_full(triple)?;
+    (
+        visit.old.number(),
+        visit.new.number(),
+        matches!(visit.way, Way::Pointer),
+    )
+}
+
+// Puts the key of a visit's triple among the known ones, and returns whether it is new.
+fn put(known: &mut BTreeSet<(usize, usize, bool)>, visit: &Visit) -> Result<bool, NoMemory>
+    ensures is_new { IfOk result (λ is_new. (visits : List PlainVisit) → AreKnown known.old visits → is_new ≡ not (has visits (seen visit.now))) }
+    ensures known { OnOk result ((visits : List PlainVisit) → AreKnown known.old visits → AreKnown known.new (added visits visit.now)) }
+    ensures err { OnErr result ((visits : List PlainVisit) → AreKnown known.old visits → AreKnown known.new visits) }
+{
+    let key = key_of(visit);
+    let is_new = known.insert(key)?;
     Ok(is_new)
 }
 
@@ -109,8 +123,8 @@ impl Visits {
         ensures { result ≡ [] }
     {
         Visits {
-            triples: IndexSet::new(alloc),
-            parents: Vec::new(alloc),
+            list: Vec::new(alloc),
+            known: BTreeSet::new(alloc),
             limits,
         }
     }
@@ -119,21 +133,17 @@ impl Visits {
     pub fn len(&self) -> usize
         ensures { result ≡ length self.now }
     {
-        self.parents.len()
+        self.list.len()
     }
 
     /// The visit with a number, or `None` where there are not so many.
     pub fn get(&self, number: usize) -> Option<Visit>
         ensures { result ≡ slice_get self.now number }
     {
-        let triple = self.triples.get_index(number)?;
-        let parent = self.parents.get(number)?;
-        Some(Visit {
-            old: triple.old,
-            new: triple.new,
-            way: triple.way,
-            parent: *parent,
-        })
+        match self.list.get(number) {
+            Some(visit) => Some(*visit),
+            None => None,
+        }
     }
 
     /// The visit with a number that is in range.
@@ -148,11 +158,11 @@ impl Visits {
     pub(crate) fn add(&mut self, visit: &Visit) -> Result<(), NoMemory>
         ensures { OnOk result (self.new ≡ added self.old visit.now) }
     {
-        ask_visit(self.parents.len(), self.limits.visits)?;
-        // This room is reserved first, so that nothing can fail once the triple is in the set.
-        self.parents.reserve(1)?;
-        if put(&mut self.triples, visit.triple())? {
-            self.parents.push(visit.parent)?;
+        ask_visit(self.list.len(), self.limits.visits)?;
+        // This room is reserved first, so that nothing can fail once the key is in the set.
+        self.list.reserve(1)?;
+        if put(&mut self.known, visit)? {
+            self.list.push(*visit)?;
         }
         Ok(())
     }

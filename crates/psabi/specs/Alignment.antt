@@ -1,6 +1,7 @@
 -- Alignments of objects in bytes (psABI, section 3.1.2 "Data Representation"). The psABI does not give those of complex numbers of
 -- 4 and of 32 bytes, and of sizes that none of its types has: these are choices of this project.
-use Rattle.std.specs.Prelude.{ℕ, ◌==◌, ◌||◌, ◌/◌, nat_lt, max, if◌then◌else◌, List, [], ◌∷◌, Option, Some, None}
+use Rattle.std.specs.Prelude.{ℕ, ◌==◌, ◌||◌, ◌/◌, nat_lt, max, if◌then◌else◌, List, [], ◌∷◌, length, map, Option, Some, None}
+use Rattle.std.specs.List.{range_with_len}
 use Rattle.abi_types.specs.declared.kind.Kind.{Kind}
 use Rattle.abi_types.specs.declared.kind.Kind.TheVariants as kind
 use Rattle.abi_types.specs.declared.kind.Group.{Group}
@@ -60,3 +61,7 @@ align_step nodes f i = max (view_at nodes i).align (own_align nodes f i)
 -- the alignment of a node's object
 unfoldable pub align_of : List PlainNode → ℕ → ℕ
 align_of nodes i = by_value 1 (align_step nodes) nodes i
+
+-- the alignments of all nodes' objects
+abbrev pub alignments : List PlainNode → List ℕ
+alignments nodes = map (align_of nodes) (range_with_len 0 (length nodes))

@@ -1,17 +1,19 @@
 // Sizes and alignments of objects (psABI, section 3.1.2 "Data Representation").
-ghost use Rattle.std.specs.Prelude.{◌≡◌, ◌<◌, length};
+ghost use Rattle.std.specs.Prelude.{◌≡◌, ◌<◌, length, IfOk};
 ghost use Rattle.abi_types.specs.Graphs.{view_at};
 ghost use Rattle.psabi.specs.Found.{IsRight};
 ghost use Rattle.psabi.specs.Alignment.{align_of};
 ghost use Rattle.psabi.specs.Alignment as spec;
 
-use crate::found::{Found, found_at, keep_align};
+use crate::found::{Found, found_at, keep_align, room_for};
 use crate::kinds::is_aggregate;
 use crate::sizes::{
     CHAR, COMPLEX_DOUBLE, COMPLEX_FLOAT, COMPLEX_FLOAT16, COMPLEX_LONG_DOUBLE, EIGHTBYTE, INT,
     INT128, LONG, M64, M128, M256, M512, SHORT,
 };
+use abi_base::{List, NoMemory};
 use abi_types::{Graph, Group, Index, Kind};
+use std::alloc::Global;
 
 // The alignment of an object whose size is not that of any psABI type.
 fn other_align(size: u64) -> u64
@@ -103,4 +105,19 @@ pub fn align<Ix: Index>(graph: &Graph<Ix>, ix: Ix) -> u64
     ensures { result ≡ align_of graph.now (Ix.number_of ix) }
 {
     align_with(graph, ix, &mut [])
+}
+
+/// The alignments of all nodes' objects in bytes, each at its node's number. Computes each only once, so that a type which many others
+/// hold is not walked again for each of them.
+pub fn alignments<Ix: Index>(alloc: Global, graph: &Graph<Ix>) -> Result<List<u64>, NoMemory>
+    ensures { IfOk result (λ aligns. aligns ≡ spec.alignments graph.now) }
+{
+    let mut room = room_for(alloc, graph.len())?;
+    let found = room.as_mut_slice();
+    let mut aligns = List::new(alloc);
+    for i in 0..graph.len() {
+        let align = align_with(graph, Ix::of(i), found);
+        aligns.push(align)?;
+    }
+    Ok(aligns)
 }

@@ -1,4 +1,4 @@
-// The exports that lead to two types which break a rule, beside the one that the row on these names.
+// The exports that lead to two types that break a rule, without the export that the row of the break names.
 ghost use Rattle.std.specs.Prelude.{◌≡◌, ◌<◌, ◌++◌, length, codes, flat_map, string_bytes, IfOk, OnOk};
 ghost use Rattle.pair_explorer.specs.Explorations.{IsExploration};
 ghost use Rattle.pair_explorer.specs.GraphPairs.{scope_of};
@@ -345,10 +345,10 @@ fn counted_notes<L: Ledger>(
     with_graphs(alloc, pair, &graphs, &mut steps)
 }
 
-/// The notes on the exports that lead to types which break a rule: at each two types that do, a note on each export that is compared
-/// and leads to them, but for the one whose row the report has. The note names the export, and the row by its export and its path.
-/// It takes the time of an exploration, and for each two such types that of a pass over what was explored. Where that is too much,
-/// or the notes are too many, memory counts as run out.
+/// The notes on the exports that lead to types that break a rule: for each two such types, a note on each compared export that
+/// leads to them, except the export of the report's row. A note names the export, and the row by its export and its path. This
+/// takes the time of an exploration, and for each two such types that of a pass over what was explored. Returns `NoMemory` if that
+/// is too much, or if there are too many notes.
 pub fn affected_exports(alloc: Global, pair: &BoundPair) -> Result<List<Note>, NoMemory>
     requires bound { IsBinding pair.now }
     requires marks { AreMarksOf pair.now.old.now pair.now.marks.now }

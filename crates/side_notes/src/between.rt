@@ -14,8 +14,8 @@ use std::alloc::Global;
 use suppression_text::Rules;
 use type_notes::Note;
 
-/// The notes on the exports of two libraries, of the old one of which some are dropped: on those that are new, on the versions that
-/// are new, on objects of threads whose sizes differ, and on likely successors of exports that are gone.
+/// The notes on the exports of two libraries, without the old ones that a rule file drops: on new exports, on new versions, on
+/// thread-local objects whose sizes differ, and on likely successors of exports that are gone.
 #[tactic(auto, unfolding(crate::specs::Between::export_notes))]
 pub fn export_notes(
     alloc: Global,
@@ -32,8 +32,8 @@ pub fn export_notes(
     Ok(notes)
 }
 
-/// The notes on two libraries that do not speak of types: those on their exports, and those on the sections of the rule file that
-/// hold of nothing in the old library. The marks are what the rule file leaves out of it.
+/// The notes on two libraries that are not about types: those on their exports, and those on the sections of the rule file that
+/// match nothing in the old library. The marks are what the rule file leaves out of it.
 pub(crate) fn own_notes(
     alloc: Global,
     old: &Library<OldIx>,

@@ -1,4 +1,4 @@
-// The sections of a rule file that hold of nothing in the old library.
+// The sections of a rule file that match nothing in the old library.
 ghost use Rattle.std.specs.Prelude.{◌≡◌, ◌∷◌, ◌++◌, [], IfOk, OnOk, flat_map, map, string_bytes};
 ghost use Rattle.std.specs.Borrow.{Bor};
 ghost use Rattle.suppression_text.specs.Keys as keys;
@@ -113,7 +113,7 @@ fn push_each(alloc: Global, notes: &mut List<Note>, sections: &[&Section]) -> Re
     Ok(())
 }
 
-/// Appends a note on each section of a rule file that holds of nothing in the old library, in the order of the file.
+/// Appends a note on each section of a rule file that matches nothing in the old library, in the order of the file.
 #[tactic(auto, unfolding(crate::specs::Idle::idle_notes))]
 pub fn push_idle_sections(
     alloc: Global,

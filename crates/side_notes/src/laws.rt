@@ -9,8 +9,8 @@ pub fn the_same_bytes_have_no_notes()
     ensures { (f rules : List ℕ) (notes : List Note) → AreAllNotes f f rules notes → notes ≡ [] }
 {}
 
-/// Whatever a note of a list says, a note that is kept says, and none that is kept says the same as one before it. Notes that do
-/// not name their types are all kept, in their order.
+/// For each note of a list, some note that is kept says the same, and no note that is kept says the same as an earlier kept one.
+/// Notes that do not name their types are all kept, in their order.
 pub fn notes_are_said_once()
     ensures said { (notes : List Note) (note : Note) → is_said (said_once notes) note ≡ is_said notes note }
     ensures once { (notes : List Note) (n : ℕ) (note : Note) → slice_get (said_once notes) n ≡ Some note → is_said (take n (said_once notes)) note ≡ false }

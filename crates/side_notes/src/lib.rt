@@ -1,5 +1,5 @@
-//! Notes on exports: what two libraries say of their exports, or of the types that exports lead to, and no rule judges. Each kind
-//! of note has a definition, and the list of a kind holds exactly the notes of that definition.
+//! Notes on exports: differences that no rule judges, in the exports of two libraries or in the types that exports lead to. Each
+//! kind of note has a definition, and the list of a kind holds exactly the notes of that definition.
 #![tactic(auto)]
 
 pub mod added;

@@ -71,7 +71,7 @@ fn push_behind(text: &mut Vec<u8>, sign: &str, bytes: &[u8]) -> Result<(), NoMem
     push(text, bytes)
 }
 
-// Appends what a line says of a note's place.
+// Appends the place of a note, with which its line begins.
 fn push_front(text: &mut Vec<u8>, note: &Note) -> Result<(), NoMemory>
     ensures { OnOk result (text.new.items ≡ text.old.items ++ line_front note.now) }
 {
@@ -80,7 +80,7 @@ fn push_front(text: &mut Vec<u8>, note: &Note) -> Result<(), NoMemory>
     push_behind(text, " ", note.path.as_slice())
 }
 
-// Appends what a line says of a change, and the end of the line.
+// Appends the old and the new state of a note, and the end of its line.
 fn push_end(text: &mut Vec<u8>, note: &Note) -> Result<(), NoMemory>
     ensures { OnOk result (text.new.items ≡ text.old.items ++ line_end note.now) }
 {
@@ -106,7 +106,7 @@ fn change_sign(was: &[u8]) -> &'static str
     if was.is_empty() { ": " } else { ", now " }
 }
 
-// Appends a note as a line, where it is of a kind and fewer than ten of that kind stand before it.
+// Appends a note as a line, if it is of this kind and comes after fewer than ten of that kind.
 fn push_if(text: &mut Vec<u8>, kind: NoteKind, so_far: usize, note: &Note) -> Result<(), NoMemory>
     ensures { OnOk result (text.new.items ≡ text.old.items ++ line_if kind so_far note.now) }
 {

@@ -1,4 +1,4 @@
-// The texts of notes, and notes that speak of one export.
+// The texts of notes, and notes on one export.
 ghost use Rattle.std.specs.Prelude.{◌≡◌, IfOk, string_bytes};
 ghost use Rattle.abi_types.specs.Plain.{plain_export};
 ghost use Rattle.abi_types.specs.Shown.{label, shown};
@@ -10,7 +10,7 @@ use abi_types::{Export, push_label, push_shown};
 use std::alloc::Global;
 use type_notes::{Note, NoteKind};
 
-/// A text as bytes, in its room.
+/// The bytes of a text, in the same allocation.
 pub fn bytes_of(text: String) -> List<u8>
     ensures { result ≡ string_bytes text }
 {

@@ -1,4 +1,4 @@
-// The first ones of notes that say the same.
+// Of notes that say the same, only the first.
 ghost use Rattle.std.specs.Prelude.{◌≡◌, ◌++◌, ◌∷◌, [], List, IsTrue, not, IfOk, OnOk};
 ghost use Rattle.type_notes.specs.declared.note.Note.{Note};
 ghost use Rattle.side_notes.specs.SaidOnce.{AreSaid, is_said, names_types};

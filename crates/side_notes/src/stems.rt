@@ -1,4 +1,4 @@
-// Names without what counts them.
+// Names without the digits and underscores at their ends.
 ghost use Rattle.std.specs.Prelude.{◌≡◌, ◌<◌, ◌≤◌, ◌-◌, true, false, length, take};
 ghost use Rattle.side_notes.specs.Stems as spec;
 

@@ -17,7 +17,7 @@ use type_notes::{Note, NoteKind};
 /// For each stem of the exports that only the new library has, the place of the first of them.
 pub type Kin<'n> = BTreeMap<&'n [u8], usize>;
 
-/// Two libraries, and what `kin_of` tells of them.
+/// Two libraries, and the result of `kin_of` for them.
 #[derive(Clone, Copy)]
 pub struct Related<'x, 'o, 'n> {
     pub old: &'x Library<'o, OldIx>,
@@ -118,9 +118,9 @@ fn successor_of<'x, 'n>(related: &Related<'x, '_, 'n>, export: &Export) -> Optio
     }
 }
 
-/// Appends the note on an old export that binds to none, where it has a likely successor: the labels of both. That is the first
-/// export of its name in the new library, which has another version; or else the first one that only the new library has whose
-/// name is the same but for digits and underscores at its end.
+/// Appends the note on an old export that binds to none and has a likely successor: the labels of both. The successor is the first
+/// export of its name in the new library, with another version; or else, of the exports that only the new library has, the first
+/// whose name differs only in digits and underscores at its end.
 #[tactic(auto, unfolding(crate::specs::Successors::successor_notes))]
 pub fn push_successor(
     alloc: Global,

@@ -17,9 +17,8 @@ fn is_thread_object(kind: SymbolKind) -> bool
     matches!(kind, SymbolKind::Tls)
 }
 
-/// Appends the note on an export that binds to another one, where both are objects of threads and their sizes differ: the sizes.
-/// Objects of equal sizes have none, whatever their types: debug information has no address for such an object, so that its type
-/// is not known.
+/// Appends the note on a thread-local object that binds to one of another size: both sizes. Objects of equal sizes have none,
+/// whatever their types: debug information has no address for such an object, so its type is not known.
 pub fn push_resized(
     alloc: Global,
     notes: &mut List<Note>,

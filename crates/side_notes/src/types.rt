@@ -94,10 +94,10 @@ fn counts_between(
     counts_of(alloc, marks, bound.as_slice())
 }
 
-/// What is said beside the comparison of two libraries.
+/// The notes on two libraries that are compared, and the counts of their exports.
 #[derive(Drop)]
 pub struct Beside {
-    /// The notes on them.
+    /// The notes.
     pub notes: List<Note>,
     /// How many exports are compared, where none of the files has a fault.
     pub counts: Option<Counts>,
@@ -191,9 +191,9 @@ fn of_files(alloc: Global, old: &[u8], new: &[u8], rules: &[u8]) -> Result<Besid
 }
 
 /// All notes on two libraries, from their bytes and those of a rule file: those on their types, those on the exports that lead to
-/// types which break a rule, and then those on their exports alone. Of notes on types that have the same names before and now, the
-/// first one stays. Where one of the files has a fault, there are none, and where both libraries are the same bytes: nothing is read
-/// then.
+/// types that break a rule, and then those on their exports alone. Of notes on types with the same names before and now, only the
+/// first is kept. There are no notes if one of the files has a fault, or if both libraries are the same bytes; then nothing is
+/// read.
 pub fn all_notes(
     alloc: Global,
     old: &[u8],
@@ -253,8 +253,8 @@ fn same_counts(alloc: Global, file: &[u8], rules: &[u8]) -> Result<Option<Counts
     }
 }
 
-/// What is said beside the comparison of two libraries: all notes on them, and how many exports are compared, dropped and gone, from
-/// their bytes and those of a rule file. Where one of the files has a fault, there are no counts.
+/// All notes on two libraries, and how many exports are compared, dropped and gone, from their bytes and those of a rule file. If
+/// one of the files has a fault, there are no counts.
 pub fn all_beside(alloc: Global, old: &[u8], new: &[u8], rules: &[u8]) -> Result<Beside, NoMemory>
     requires old_short { length old.now ≤ input_limit }
     requires new_short { length new.now ≤ input_limit }

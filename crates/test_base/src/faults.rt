@@ -7,7 +7,7 @@ fn expect(rt: &impl Abort, kind: FaultKind, number: u64, name: &str) {
     assert_eq!(rt; kind.name(), name, "at {number}");
 }
 
-// Numbers and names stand in the table of faults of the specification.
+// The numbers and the names are those in the specification's table of faults.
 #[test]
 fn kinds_have_their_numbers_and_names(rt: HostRuntime) {
     expect(&rt, FaultKind::ShortFile, 1, "ShortFile");

@@ -1,3 +1,4 @@
+// Generated libraries: their lengths.
 use std::test::Fail;
 use trial_libraries::*;
 

@@ -4,6 +4,8 @@
 #[cfg(test)]
 mod generated;
 #[cfg(test)]
+mod notes;
+#[cfg(test)]
 mod rule_lines;
 #[cfg(test)]
 mod sentences;

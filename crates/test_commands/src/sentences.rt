@@ -1,7 +1,6 @@
 // Each kind of fault has a sentence, with its place.
-use abi_base::{Fault, FaultKind, Limit, NoMemory, Remark, SizedExports};
-use commands::{File, Input, Outcome, Verdict};
-use explain::{failure_sentence, fault_sentence, notes_on, untyped_sentence};
+use abi_base::{Fault, FaultKind, NoMemory};
+use explain::{failure_sentence, fault_sentence};
 use std::alloc::Global;
 use std::test::Fail;
 
@@ -10,172 +9,181 @@ fn sentence(alloc: Global, kind: FaultKind, at: u64, bytes: &[u8]) -> Result<Str
     fault_sentence(alloc, "lib.so", Fault { kind, at }, bytes)
 }
 
+// The beginnings of an object file, of a program at a fixed address and of a core dump.
+const OBJECT: &[u8] = b"\x7fELF\x02\x01\x01\x00\x00\x00\x00\x00\x00\x00\x00\x00\x01\x00";
+
+const PROGRAM: &[u8] = b"\x7fELF\x02\x01\x01\x00\x00\x00\x00\x00\x00\x00\x00\x00\x02\x00";
+
+const CORE: &[u8] = b"\x7fELF\x02\x01\x01\x00\x00\x00\x00\x00\x00\x00\x00\x00\x04\x00";
+
+// A fault, its place, the bytes of the file, and the sentence.
+const FILES: [(FaultKind, u64, &[u8], &str); 17] = [
+    (
+        FaultKind::ShortFile,
+        0,
+        b"",
+        "lib.so: it is empty (fault 1 ShortFile at 0)",
+    ),
+    (
+        FaultKind::NotElf,
+        0,
+        b"!<arch>\nlibx.o/",
+        "lib.so: it is a static archive; give the shared object (.so) itself (fault 2 NotElf at 0)",
+    ),
+    (
+        FaultKind::NotElf,
+        0,
+        b"!<arch>\ndebian-binary   ",
+        "lib.so: it is a Debian package; give a shared object (.so) out of it, or compare packages with abi-packages (fault 2 NotElf at 0)",
+    ),
+    (
+        FaultKind::NotElf,
+        0,
+        b"\xed\xab\xee\xdb\x03\x00",
+        "lib.so: it is an RPM package; give a shared object (.so) out of it, or compare packages with abi-packages (fault 2 NotElf at 0)",
+    ),
+    (
+        FaultKind::NotElf,
+        0,
+        b"/* GNU ld script\n",
+        "lib.so: it is a linker script; give the shared object that it names (fault 2 NotElf at 0)",
+    ),
+    (
+        FaultKind::NotElf,
+        0,
+        b"text",
+        "lib.so: it is not an ELF file (fault 2 NotElf at 0)",
+    ),
+    (
+        FaultKind::ShortFile,
+        7,
+        b"\x7fELF\x02\x01\x01",
+        "lib.so: it ends inside its ELF header (fault 1 ShortFile at 7)",
+    ),
+    (
+        FaultKind::ShortFile,
+        7,
+        b"",
+        "lib.so: it is not an ELF file (fault 1 ShortFile at 7)",
+    ),
+    (
+        FaultKind::Class,
+        4,
+        b"\x7fELF\x01",
+        "lib.so: it is a 32-bit file; only 64-bit shared objects for x86-64 are read (fault 3 Class at 4)",
+    ),
+    (
+        FaultKind::Class,
+        4,
+        b"",
+        "lib.so: it is not a 64-bit file; only 64-bit shared objects for x86-64 are read (fault 3 Class at 4)",
+    ),
+    (
+        FaultKind::Data,
+        5,
+        b"\x7fELF\x02\x02",
+        "lib.so: it is a big-endian file; only shared objects for x86-64 are read (fault 4 Data at 5)",
+    ),
+    (
+        FaultKind::Data,
+        5,
+        b"\x7fELF\x02\x00",
+        "lib.so: it is not a little-endian file; only shared objects for x86-64 are read (fault 4 Data at 5)",
+    ),
+    (
+        FaultKind::NotShared,
+        16,
+        OBJECT,
+        "lib.so: it is an object file (.o), not a shared object (fault 6 NotShared at 16)",
+    ),
+    (
+        FaultKind::NotShared,
+        16,
+        PROGRAM,
+        "lib.so: it is an executable at a fixed address (compiled with -no-pie), not a shared object or a position-independent executable (fault 6 NotShared at 16)",
+    ),
+    (
+        FaultKind::NotShared,
+        16,
+        CORE,
+        "lib.so: it is a core dump, not a shared object (fault 6 NotShared at 16)",
+    ),
+    (
+        FaultKind::Machine,
+        18,
+        b"",
+        "lib.so: it is for another processor than x86-64 (fault 7 Machine at 18)",
+    ),
+    (
+        FaultKind::TooLong,
+        268435456,
+        b"",
+        "lib.so: it is longer than 256 MiB (fault 40 TooLong at 268435456)",
+    ),
+];
+
 #[test]
 fn files_that_are_no_libraries_are_named(rt: HostRuntime) -> Result<(), Fail> {
     let alloc = rt.alloc();
-    let object = b"\x7fELF\x02\x01\x01\x00\x00\x00\x00\x00\x00\x00\x00\x00\x01\x00";
-    let program = b"\x7fELF\x02\x01\x01\x00\x00\x00\x00\x00\x00\x00\x00\x00\x02\x00";
-    let core = b"\x7fELF\x02\x01\x01\x00\x00\x00\x00\x00\x00\x00\x00\x00\x04\x00";
-    let rows: [(FaultKind, u64, &[u8], &str); 17] = [
-        (
-            FaultKind::ShortFile,
-            0,
-            b"",
-            "lib.so: it is empty (fault 1 ShortFile at 0)",
-        ),
-        (
-            FaultKind::NotElf,
-            0,
-            b"!<arch>\nlibx.o/",
-            "lib.so: it is a static archive; give the shared object (.so) itself (fault 2 NotElf at 0)",
-        ),
-        (
-            FaultKind::NotElf,
-            0,
-            b"!<arch>\ndebian-binary   ",
-            "lib.so: it is a Debian package; give a shared object (.so) out of it, or compare packages with abi-packages (fault 2 NotElf at 0)",
-        ),
-        (
-            FaultKind::NotElf,
-            0,
-            b"\xed\xab\xee\xdb\x03\x00",
-            "lib.so: it is an RPM package; give a shared object (.so) out of it, or compare packages with abi-packages (fault 2 NotElf at 0)",
-        ),
-        (
-            FaultKind::NotElf,
-            0,
-            b"/* GNU ld script\n",
-            "lib.so: it is a linker script; give the shared object that it names (fault 2 NotElf at 0)",
-        ),
-        (
-            FaultKind::NotElf,
-            0,
-            b"text",
-            "lib.so: it is not an ELF file (fault 2 NotElf at 0)",
-        ),
-        (
-            FaultKind::ShortFile,
-            7,
-            b"\x7fELF\x02\x01\x01",
-            "lib.so: it ends inside its ELF header (fault 1 ShortFile at 7)",
-        ),
-        (
-            FaultKind::ShortFile,
-            7,
-            b"",
-            "lib.so: it is not an ELF file (fault 1 ShortFile at 7)",
-        ),
-        (
-            FaultKind::Class,
-            4,
-            b"\x7fELF\x01",
-            "lib.so: it is a 32-bit file; only 64-bit shared objects for x86-64 are read (fault 3 Class at 4)",
-        ),
-        (
-            FaultKind::Class,
-            4,
-            b"",
-            "lib.so: it is not a 64-bit file; only 64-bit shared objects for x86-64 are read (fault 3 Class at 4)",
-        ),
-        (
-            FaultKind::Data,
-            5,
-            b"\x7fELF\x02\x02",
-            "lib.so: it is a big-endian file; only shared objects for x86-64 are read (fault 4 Data at 5)",
-        ),
-        (
-            FaultKind::Data,
-            5,
-            b"\x7fELF\x02\x00",
-            "lib.so: it is not a little-endian file; only shared objects for x86-64 are read (fault 4 Data at 5)",
-        ),
-        (
-            FaultKind::NotShared,
-            16,
-            object,
-            "lib.so: it is an object file (.o), not a shared object (fault 6 NotShared at 16)",
-        ),
-        (
-            FaultKind::NotShared,
-            16,
-            program,
-            "lib.so: it is an executable at a fixed address (compiled with -no-pie), not a shared object or a position-independent executable (fault 6 NotShared at 16)",
-        ),
-        (
-            FaultKind::NotShared,
-            16,
-            core,
-            "lib.so: it is a core dump, not a shared object (fault 6 NotShared at 16)",
-        ),
-        (
-            FaultKind::Machine,
-            18,
-            b"",
-            "lib.so: it is for another processor than x86-64 (fault 7 Machine at 18)",
-        ),
-        (
-            FaultKind::TooLong,
-            268435456,
-            b"",
-            "lib.so: it is longer than 256 MiB (fault 40 TooLong at 268435456)",
-        ),
-    ];
-    for (kind, at, bytes, wanted) in rows {
+    for (kind, at, bytes, wanted) in FILES {
         assert_eq!(rt; sentence(alloc, kind, at, bytes)?.as_str(), wanted);
     }
     Ok(())
 }
 
+// A fault, its place, and the sentence.
+const PLACES: [(FaultKind, u64, &str); 9] = [
+    (
+        FaultKind::SectionRange,
+        3,
+        "lib.so: section 3 does not lie inside the file, which may have been cut short (fault 9 SectionRange at 3)",
+    ),
+    (
+        FaultKind::SymbolTable,
+        0,
+        "lib.so: the table of dynamic symbols is damaged (fault 13 SymbolTable at 0)",
+    ),
+    (
+        FaultKind::SymbolTable,
+        5,
+        "lib.so: dynamic symbol 5 is damaged, or its name does not end inside the table of names (fault 13 SymbolTable at 5)",
+    ),
+    (
+        FaultKind::DynamicTable,
+        0,
+        "lib.so: the dynamic table is damaged, or its soname does not end inside the table of names (fault 14 DynamicTable at 0)",
+    ),
+    (
+        FaultKind::DuplicateExport,
+        7,
+        "lib.so: dynamic symbol 7 has the name and the version of an earlier export (fault 18 DuplicateExport at 7)",
+    ),
+    (
+        FaultKind::Language,
+        12,
+        "lib.so: offset 0xc of .debug_info: the language of the unit is not C or assembler; only units in these are read (fault 33 Language at 12)",
+    ),
+    (
+        FaultKind::Abbrev,
+        18,
+        "lib.so: offset 0x12 of .debug_abbrev: the abbreviation is damaged (fault 25 Abbrev at 18)",
+    ),
+    (
+        FaultKind::Section,
+        4,
+        "lib.so: line 4: there is no section of this name (fault 52 Section at 4)",
+    ),
+    (
+        FaultKind::Order,
+        7,
+        "lib.so: line 7: it is out of order (fault 61 Order at 7)",
+    ),
+];
+
 #[test]
 fn places_are_named(rt: HostRuntime) -> Result<(), Fail> {
     let alloc = rt.alloc();
-    for (kind, at, wanted) in [
-        (
-            FaultKind::SectionRange,
-            3,
-            "lib.so: section 3 does not lie inside the file, which may have been cut short (fault 9 SectionRange at 3)",
-        ),
-        (
-            FaultKind::SymbolTable,
-            0,
-            "lib.so: the table of dynamic symbols is damaged (fault 13 SymbolTable at 0)",
-        ),
-        (
-            FaultKind::SymbolTable,
-            5,
-            "lib.so: dynamic symbol 5 is damaged, or its name does not end inside the table of names (fault 13 SymbolTable at 5)",
-        ),
-        (
-            FaultKind::DynamicTable,
-            0,
-            "lib.so: the dynamic table is damaged, or its soname does not end inside the table of names (fault 14 DynamicTable at 0)",
-        ),
-        (
-            FaultKind::DuplicateExport,
-            7,
-            "lib.so: dynamic symbol 7 has the name and the version of an earlier export (fault 18 DuplicateExport at 7)",
-        ),
-        (
-            FaultKind::Language,
-            12,
-            "lib.so: offset 0xc of .debug_info: the language of the unit is not C or assembler; only units in these are read (fault 33 Language at 12)",
-        ),
-        (
-            FaultKind::Abbrev,
-            18,
-            "lib.so: offset 0x12 of .debug_abbrev: the abbreviation is damaged (fault 25 Abbrev at 18)",
-        ),
-        (
-            FaultKind::Section,
-            4,
-            "lib.so: line 4: there is no section of this name (fault 52 Section at 4)",
-        ),
-        (
-            FaultKind::Order,
-            7,
-            "lib.so: line 7: it is out of order (fault 61 Order at 7)",
-        ),
-    ] {
+    for (kind, at, wanted) in PLACES {
         assert_eq!(rt; sentence(alloc, kind, at, b"")?.as_str(), wanted);
     }
     Ok(())
@@ -227,175 +235,5 @@ fn paths_do_not_break_the_line(rt: HostRuntime) -> Result<(), Fail> {
         let text = failure_sentence(alloc, path, "reading failed")?;
         assert_eq!(rt; text.as_str(), wanted.as_str());
     }
-    Ok(())
-}
-
-#[test]
-fn exports_without_types_are_told(rt: HostRuntime) -> Result<(), Fail> {
-    let alloc = rt.alloc();
-    for (all, untyped, wanted) in [
-        (0, 0, None),
-        (7, 0, None),
-        (
-            7,
-            2,
-            Some(
-                "lib/a.so: the debug information has no type for 2 of the 7 exports that have a size: of these only names, versions, kinds and the sizes of objects were compared",
-            ),
-        ),
-        (
-            7,
-            7,
-            Some(
-                "lib/a.so: the debug information has no types for the exports: only names, versions, kinds and the sizes of objects were compared; compile with -g to compare types",
-            ),
-        ),
-    ] {
-        let text = untyped_sentence(alloc, "lib/a.so", SizedExports { all, untyped })?;
-        assert_eq!(rt; text.as_ref().map(|text| text.as_str()), wanted);
-    }
-    Ok(())
-}
-
-// The number of notes on an outcome, and the beginning of the first one.
-#[test]
-fn an_outcome_has_its_notes(rt: HostRuntime) -> Result<(), Fail> {
-    let alloc = rt.alloc();
-    let some = SizedExports { all: 3, untyped: 1 };
-    let none = SizedExports { all: 3, untyped: 0 };
-    let fault = Fault {
-        kind: FaultKind::ShortFile,
-        at: 0,
-    };
-    let both = Some(Remark {
-        old: some,
-        new: some,
-    });
-    let new = Some(Remark {
-        old: none,
-        new: some,
-    });
-    let files = [
-        File {
-            which: Input::Old,
-            name: "a.so",
-        },
-        File {
-            which: Input::New,
-            name: "b.so",
-        },
-    ];
-    for (outcome, count, first) in [
-        (Outcome::Judged(Verdict::Yes, both), 2, "a.so: the debug"),
-        (Outcome::Judged(Verdict::No, new), 1, "b.so: the debug"),
-        (Outcome::Judged(Verdict::Done, None), 0, ""),
-        (
-            Outcome::Unreadable(Input::New, fault),
-            1,
-            "b.so: it is empty",
-        ),
-        (Outcome::Unreadable(Input::Rules, fault), 0, ""),
-        (Outcome::ReadFault(Input::Old), 1, "a.so: no such file"),
-        (Outcome::ReadFault(Input::Library), 0, ""),
-        (
-            Outcome::NoMemory(NoMemory::Past(Limit::Pairs)),
-            1,
-            "past the limit on pairs of types (LIMITS in abi(1))",
-        ),
-        (Outcome::NoMemory(NoMemory::Allocation), 1, "out of memory"),
-        (Outcome::WriteFault, 1, "writing failed"),
-        (Outcome::Help, 0, ""),
-        (Outcome::Usage, 0, ""),
-    ] {
-        let notes = notes_on(alloc, outcome, &files, b"", "no such file")?;
-        assert_eq!(rt; notes.len(), count);
-        if count > 0 {
-            assert!(rt; notes[0].starts_with(first));
-        }
-    }
-    Ok(())
-}
-
-// For these numbers of exports with a size and without a type, each note begins with the name of its library and these words.
-#[test]
-fn lost_types_and_sizes_are_told(rt: HostRuntime) -> Result<(), Fail> {
-    let alloc = rt.alloc();
-    let typed = SizedExports { all: 3, untyped: 0 };
-    let bare = SizedExports { all: 3, untyped: 3 };
-    let sizeless = SizedExports { all: 0, untyped: 0 };
-    let pair = [file(Input::Old, "a.so"), file(Input::New, "b.so")];
-    for (old, new, count, last) in [
-        (typed, typed, 0, ""),
-        (
-            typed,
-            bare,
-            2,
-            "b.so: the debug information has no types for the exports, but that of a.so has: whether their types broke cannot be told",
-        ),
-        (
-            bare,
-            bare,
-            2,
-            "b.so: the debug information has no types for the exports: only",
-        ),
-        (typed, sizeless, 0, ""),
-        (
-            sizeless,
-            bare,
-            2,
-            "a.so: none of its exports has a size: names, versions and kinds were compared, and types only where an export without a size has one",
-        ),
-    ] {
-        let outcome = Outcome::Judged(Verdict::Yes, Some(Remark { old, new }));
-        let notes = notes_on(alloc, outcome, &pair, b"", "")?;
-        assert_eq!(rt; notes.len(), count);
-        if count > 0 {
-            assert!(rt; notes[count - 1].starts_with(last));
-        }
-    }
-    Ok(())
-}
-
-// An input, and the name under which it is read.
-const fn file<'a>(which: Input, name: &'a str) -> File<'a> {
-    File { which, name }
-}
-
-// The note on a refusal after these files were read, if there is one.
-fn refusal_of(alloc: Global, files: &[File<'_>]) -> Result<Option<String>, NoMemory> {
-    let outcome = Outcome::Judged(Verdict::Refused, None);
-    let mut notes = notes_on(alloc, outcome, files, b"", "")?;
-    Ok(notes.pop())
-}
-
-// A note names what a refused certificate does not prove.
-#[test]
-fn a_refusal_is_told(rt: HostRuntime) -> Result<(), Fail> {
-    let alloc = rt.alloc();
-    let files = [
-        file(Input::Old, "a.so"),
-        file(Input::New, "b.so"),
-        file(Input::Certificate, "c"),
-    ];
-    let said = refusal_of(alloc, &files)?.ok_or("nothing is said")?;
-    assert_eq!(rt;
-        said.as_str(),
-        "c: the certificate does not prove that b.so may replace a.so"
-    );
-    let files = [
-        file(Input::First, "a"),
-        file(Input::Middle, "m"),
-        file(Input::Last, "b"),
-        file(Input::Certificate1, "c"),
-        file(Input::Certificate2, "d"),
-    ];
-    let said = refusal_of(alloc, &files)?.ok_or("nothing is said")?;
-    assert_eq!(rt;
-        said.as_str(),
-        "c: with d it does not prove that b may replace a"
-    );
-    // A tag that no structure has is noted elsewhere.
-    let said = refusal_of(alloc, &[file(Input::Library, "a.so")])?;
-    assert!(rt; said.is_none());
     Ok(())
 }

@@ -1,3 +1,4 @@
+// The two lines that a trial prints.
 ghost use Rattle.std.specs.Prelude.{◌<◌, ◌≤◌};
 ghost use Rattle.trial_libraries.specs.Limits.{most_functions};
 

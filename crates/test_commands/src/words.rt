@@ -1,4 +1,5 @@
 // Arguments and their meaning.
+use abi_base::NoMemory;
 use cli_args::commands::{AppWords, CertificateWords, CheckWords, ComposeWords, LayoutWords};
 use cli_args::{ParsedArguments, Request, parse_arguments};
 use report::styles::ReportStyle;
@@ -48,62 +49,71 @@ fn words_are_taken_or_refused(rt: HostRuntime) -> Result<(), Fail> {
     Ok(())
 }
 
+// The columns of a line: the words | the rules, the style and the old library of the check that they ask for, or nothing if they are
+// wrong. A minus stands for no rules, and `''` for rules of an empty name.
+const OPTIONS: &str = "\
+check --rules F A B|F text A
+check A B --rules F|F text A
+--report=table check A --rules=F B|F table A
+check --rules= A B|'' text A
+check --rules F|
+check --rules F A|
+check --rules -h|
+check --rules F --rules F A B|
+check A A --report|
+check --report text A B|- text A
+check --report table A B|- table A
+check --report counts A B|- counts A
+check --report first A B|- first A
+check --report own A B|- own A
+check --report loud A B|
+check --report Text A B|
+";
+
+fn cut(text: &str, by: char) -> (&str, &str) {
+    text.split_once(by).unwrap_or((text, ""))
+}
+
+fn rules(word: &str) -> Option<&str> {
+    match word {
+        "-" => None,
+        "''" => Some(""),
+        _ => Some(word),
+    }
+}
+
+fn style(word: &str) -> ReportStyle {
+    match word {
+        "table" => ReportStyle::Table,
+        "counts" => ReportStyle::Counts,
+        "first" => ReportStyle::First,
+        "own" => ReportStyle::Own,
+        _ => ReportStyle::Text,
+    }
+}
+
+// The meaning in a row.
+fn meaning(cell: &str) -> ParsedArguments<'_> {
+    let (rules_word, cell) = cut(cell, ' ');
+    let (style_word, old) = cut(cell, ' ');
+    if old.is_empty() {
+        ParsedArguments::Usage
+    } else {
+        check(rules(rules_word), style(style_word), old)
+    }
+}
+
+fn has_meaning(rt: &impl Abort, alloc: Global, row: &str) -> Result<(), NoMemory> {
+    let (text, cell) = cut(row, '|');
+    let words: Vec<&str> = text.split(' ').collect(alloc)?;
+    assert_eq!(rt; parse_arguments(alloc, &words)?, meaning(cell), "{text}");
+    Ok(())
+}
+
 #[test]
 fn options_stand_anywhere(rt: HostRuntime) -> Result<(), Fail> {
-    let (text, table) = (ReportStyle::Text, ReportStyle::Table);
-    let rows: [(&[&str], ParsedArguments<'_>); 16] = [
-        (
-            &["check", "--rules", "F", "A", "B"],
-            check(Some("F"), text, "A"),
-        ),
-        (
-            &["check", "A", "B", "--rules", "F"],
-            check(Some("F"), text, "A"),
-        ),
-        (
-            &["--report=table", "check", "A", "--rules=F", "B"],
-            check(Some("F"), table, "A"),
-        ),
-        (&["check", "--rules=", "A", "B"], check(Some(""), text, "A")),
-        (&["check", "--rules", "F"], ParsedArguments::Usage),
-        (&["check", "--rules", "F", "A"], ParsedArguments::Usage),
-        (&["check", "--rules", "-h"], ParsedArguments::Usage),
-        (
-            &["check", "--rules", "F", "--rules", "F", "A", "B"],
-            ParsedArguments::Usage,
-        ),
-        (&["check", "A", "A", "--report"], ParsedArguments::Usage),
-        (
-            &["check", "--report", "text", "A", "B"],
-            check(None, text, "A"),
-        ),
-        (
-            &["check", "--report", "table", "A", "B"],
-            check(None, table, "A"),
-        ),
-        (
-            &["check", "--report", "counts", "A", "B"],
-            check(None, ReportStyle::Counts, "A"),
-        ),
-        (
-            &["check", "--report", "first", "A", "B"],
-            check(None, ReportStyle::First, "A"),
-        ),
-        (
-            &["check", "--report", "own", "A", "B"],
-            check(None, ReportStyle::Own, "A"),
-        ),
-        (
-            &["check", "--report", "loud", "A", "B"],
-            ParsedArguments::Usage,
-        ),
-        (
-            &["check", "--report", "Text", "A", "B"],
-            ParsedArguments::Usage,
-        ),
-    ];
-    for (words, want) in rows {
-        assert_eq!(rt; parse_arguments(rt.alloc(), words)?, want, "{words:?}");
+    for row in OPTIONS.lines() {
+        has_meaning(&rt, rt.alloc(), row)?;
     }
     Ok(())
 }
@@ -128,30 +138,35 @@ const fn migrate<'a>(rules: Option<&'a str>) -> ParsedArguments<'a> {
     }))
 }
 
-#[test]
-fn later_commands_have_their_words(rt: HostRuntime) -> Result<(), Fail> {
-    let compose = ParsedArguments::Request(Request::Compose(ComposeWords {
+const COMPOSE: ParsedArguments<'static> = ParsedArguments::Request(Request::Compose(
+    ComposeWords {
         first: "A",
         middle: "B",
         last: "C",
         certificate1: "D",
         certificate2: "E",
-    }));
-    let layout = ParsedArguments::Request(Request::Layout(LayoutWords {
-        library: "A",
-        tag: "s",
-    }));
-    let app = ParsedArguments::Request(Request::App(AppWords {
-        rules: Some("F"),
-        report: ReportStyle::Counts,
-        program: "A",
-        old: "B",
-        new: "C",
-    }));
+    },
+));
+
+const LAYOUT: ParsedArguments<'static> = ParsedArguments::Request(Request::Layout(LayoutWords {
+    library: "A",
+    tag: "s",
+}));
+
+const APP: ParsedArguments<'static> = ParsedArguments::Request(Request::App(AppWords {
+    rules: Some("F"),
+    report: ReportStyle::Counts,
+    program: "A",
+    old: "B",
+    new: "C",
+}));
+
+#[test]
+fn later_commands_have_their_words(rt: HostRuntime) -> Result<(), Fail> {
     let rows: [(&[&str], ParsedArguments<'_>); 11] = [
         (
             &["app", "--rules", "F", "A", "--report", "counts", "B", "C"],
-            app,
+            APP,
         ),
         (&["app", "A", "B"], ParsedArguments::Usage),
         (&["migrate", "A", "B", "C"], migrate(None)),
@@ -160,13 +175,13 @@ fn later_commands_have_their_words(rt: HostRuntime) -> Result<(), Fail> {
             migrate(Some("F")),
         ),
         (&["migrate", "A", "B"], ParsedArguments::Usage),
-        (&["compose", "A", "B", "C", "D", "E"], compose),
+        (&["compose", "A", "B", "C", "D", "E"], COMPOSE),
         (&["compose", "A", "B", "C", "D"], ParsedArguments::Usage),
         (
             &["compose", "--rules", "F", "A", "B", "C", "D", "E"],
             ParsedArguments::Usage,
         ),
-        (&["layout", "A", "s"], layout),
+        (&["layout", "A", "s"], LAYOUT),
         (&["layout", "A"], ParsedArguments::Usage),
         (
             &["layout", "--report", "text", "A", "s"],

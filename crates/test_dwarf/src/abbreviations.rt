@@ -1,6 +1,7 @@
 // What no contract states: tables as bytes, worked by hand from the standard, and that a call returns them.
 use abi_base::{Fault, FaultKind, Refusal};
-use dwarf_forms::abbreviations::{Spec, table};
+use dwarf_forms::DebugAbbrevOffset;
+use dwarf_forms::abbreviations::{AbbreviationCode, Spec, table};
 use std::test::Fail;
 
 // The abbreviations of a unit, of a base type, and of a function.
@@ -39,19 +40,31 @@ fn abbreviations_are_found(rt: HostRuntime) -> Result<(), Fail> {
         ),
         (IMPLICIT, 0, &[(1, 0x34, false, 1)][..]),
     ] {
-        let found = table(rt.alloc(), bytes, at)?;
+        let found = table(rt.alloc(), bytes, DebugAbbrevOffset::new(at))?;
         for (code, tag, children, pairs) in wanted.iter().copied() {
-            let made = found.find(code).expect(&rt, "a code of the table");
+            let made = found
+                .find(AbbreviationCode::new(code))
+                .expect(&rt, "a code of the table");
             assert_eq!(rt; made.tag, tag, "at {code}");
             assert_eq!(rt; made.children, children, "at {code}");
             assert_eq!(rt; made.specs.as_slice().len(), pairs, "at {code}");
         }
         for code in [0, 4, 8] {
-            assert!(rt; found.find(code).is_none(), "at {code}");
+            assert!(rt;
+                found.find(AbbreviationCode::new(code)).is_none(),
+                "at {code}"
+            );
         }
     }
-    let found = table(rt.alloc(), IMPLICIT, 0)?;
-    let made = found.find(1).expect(&rt, "the only code");
+    Ok(())
+}
+
+#[test]
+fn a_constant_follows_its_form(rt: HostRuntime) -> Result<(), Fail> {
+    let found = table(rt.alloc(), IMPLICIT, DebugAbbrevOffset::new(0))?;
+    let made = found
+        .find(AbbreviationCode::new(1))
+        .expect(&rt, "the only code");
     let pair = Spec {
         attribute: 0x3a,
         form: 0x21,
@@ -76,7 +89,7 @@ fn faults_are_at_their_abbreviation(rt: HostRuntime) -> Result<(), Fail> {
     ] {
         let mut bytes = TABLE.to_vec(rt.alloc())?;
         bytes[place] = byte;
-        let answer = table(rt.alloc(), bytes.as_slice(), at).err();
+        let answer = table(rt.alloc(), bytes.as_slice(), DebugAbbrevOffset::new(at)).err();
         let wanted = Refusal::Fault(Fault {
             kind: FaultKind::Abbrev,
             at: fault,
@@ -87,6 +100,7 @@ fn faults_are_at_their_abbreviation(rt: HostRuntime) -> Result<(), Fail> {
         kind: FaultKind::Abbrev,
         at: 0,
     });
-    assert_eq!(rt; table(rt.alloc(), b"", 0).err(), Some(wanted));
+    let answer = table(rt.alloc(), b"", DebugAbbrevOffset::new(0)).err();
+    assert_eq!(rt; answer, Some(wanted));
     Ok(())
 }

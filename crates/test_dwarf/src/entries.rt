@@ -1,9 +1,11 @@
+// What entries say, in hand-made units: names, origins, addresses and signatures.
 ghost use Rattle.std.specs.Prelude.{◌≤◌, length};
 ghost use Rattle.abi_base.specs.Limits.{input_limit};
 
 use abi_base::{Fault, FaultKind, INPUT_LIMIT, Refusal};
 use dwarf_entries::*;
-use dwarf_forms::{Sections, Value};
+use dwarf_forms::{DebugInfoOffset, Sections, Value};
+use dwarf_tree::EntryNumber;
 use std::alloc::{AllocError, Global};
 use std::test::*;
 
@@ -98,10 +100,6 @@ fn refusal(alloc: Global, sections: Sections) -> Option<Refusal> {
     }
 }
 
-fn fault(kind: FaultKind, at: u64) -> Option<Refusal> {
-    Some(Refusal::Fault(Fault { kind, at }))
-}
-
 // The bytes, with another one at a position.
 fn changed(alloc: Global, bytes: &[u8], at: usize, byte: u8) -> Result<Vec<u8>, AllocError> {
     let mut changed = Vec::from_slice(alloc, bytes)?;
@@ -111,65 +109,73 @@ fn changed(alloc: Global, bytes: &[u8], at: usize, byte: u8) -> Result<Vec<u8>, 
     Ok(changed)
 }
 
-// Worked by hand from DWARF 5, sections 2.13, 3.1.4, 7.5.5 and 7.32.
+// Abbreviations, a unit, the position of a byte in it, the byte that is to stand there, and the fault. Worked by hand from DWARF 5,
+// sections 2.13, 3.1.4, 7.5.5 and 7.32.
+const CHANGES: [(&[u8], &[u8], usize, u8, Option<(FaultKind, u64)>); 12] = [
+    (ABBREVS, FUNCTION, 0, 0x22, None),
+    (
+        ABBREVS,
+        FUNCTION,
+        25,
+        0x10,
+        Some((FaultKind::Reference, 22)),
+    ),
+    (ABBREVS, TYPE_UNIT, 51, 0x11, None),
+    (
+        ABBREVS,
+        TYPE_UNIT,
+        51,
+        0x12,
+        Some((FaultKind::Reference, 48)),
+    ),
+    (CHAIN_ABBREVS, CHAIN, 0, 0x3b, None),
+    (
+        CHAIN_ABBREVS,
+        CHAIN,
+        22,
+        0x11,
+        Some((FaultKind::Reference, 21)),
+    ),
+    (
+        CHAIN_ABBREVS,
+        CHAIN,
+        26,
+        0x10,
+        Some((FaultKind::Reference, 21)),
+    ),
+    (
+        CHAIN_ABBREVS,
+        CIRCLE,
+        16,
+        15,
+        Some((FaultKind::OriginTooDeep, 15)),
+    ),
+    (CHAIN_ABBREVS, CIRCLE, 16, 12, None),
+    (
+        CHAIN_ABBREVS,
+        STRUCTURE,
+        15,
+        7,
+        Some((FaultKind::Reference, 15)),
+    ),
+    (CHAIN_ABBREVS, NAMELESS, 16, 0, Some((FaultKind::Text, 15))),
+    (
+        CHAIN_ABBREVS,
+        RANGELESS,
+        16,
+        0,
+        Some((FaultKind::Ranges, 15)),
+    ),
+];
+
 #[test]
 fn each_entry_has_its_fault(rt: HostRuntime) -> Result<(), Fail> {
     let alloc = rt.alloc();
-    let rows: [(&[u8], &[u8], usize, u8, Option<Refusal>); 12] = [
-        (ABBREVS, FUNCTION, 0, 0x22, None),
-        (ABBREVS, FUNCTION, 25, 0x10, fault(FaultKind::Reference, 22)),
-        (ABBREVS, TYPE_UNIT, 51, 0x11, None),
-        (
-            ABBREVS,
-            TYPE_UNIT,
-            51,
-            0x12,
-            fault(FaultKind::Reference, 48),
-        ),
-        (CHAIN_ABBREVS, CHAIN, 0, 0x3b, None),
-        (
-            CHAIN_ABBREVS,
-            CHAIN,
-            22,
-            0x11,
-            fault(FaultKind::Reference, 21),
-        ),
-        (
-            CHAIN_ABBREVS,
-            CHAIN,
-            26,
-            0x10,
-            fault(FaultKind::Reference, 21),
-        ),
-        (
-            CHAIN_ABBREVS,
-            CIRCLE,
-            16,
-            15,
-            fault(FaultKind::OriginTooDeep, 15),
-        ),
-        (CHAIN_ABBREVS, CIRCLE, 16, 12, None),
-        (
-            CHAIN_ABBREVS,
-            STRUCTURE,
-            15,
-            7,
-            fault(FaultKind::Reference, 15),
-        ),
-        (CHAIN_ABBREVS, NAMELESS, 16, 0, fault(FaultKind::Text, 15)),
-        (
-            CHAIN_ABBREVS,
-            RANGELESS,
-            16,
-            0,
-            fault(FaultKind::Ranges, 15),
-        ),
-    ];
-    for (abbrevs, info, at, byte, want) in &rows {
-        let entries = changed(alloc, info, *at, *byte)?;
+    for (abbrevs, info, at, byte, want) in CHANGES {
+        let entries = changed(alloc, info, at, byte)?;
         assert_eq!(rt;
             refusal(alloc, sections(abbrevs, entries.as_slice())),
-            *want,
+            want.map(|(kind, at)| Refusal::Fault(Fault { kind, at })),
             "{entries:?} {at}"
         );
     }
@@ -177,18 +183,18 @@ fn each_entry_has_its_fault(rt: HostRuntime) -> Result<(), Fail> {
 }
 
 // The first entry of the chain with a name, the last entry of the chain, and the entry's own address.
-fn said<'a>(dwarf: &Dwarf<'a>, e: usize) -> (Option<&'a [u8]>, usize, Option<u64>) {
-    if e < dwarf.len() {
+fn said<'a>(dwarf: &Dwarf<'a>, e: EntryNumber) -> (Option<&'a [u8]>, EntryNumber, Option<u64>) {
+    if e.index() < dwarf.len() {
         (dwarf.name_of(e), dwarf.origin(e), dwarf.entry_address(e))
     } else {
-        (None, 0, None)
+        (None, EntryNumber::new(0), None)
     }
 }
 
 // Worked by hand from DWARF 5, sections 2.13, 2.17, 2.18, 3.1.1 and 3.3.8.
 #[test]
 fn each_entry_has_its_name_origin_and_address(rt: HostRuntime) -> Result<(), Fail> {
-    let rows: [(Sections, usize, Option<&[u8]>, usize, Option<u64>); 10] = [
+    let rows: [(Sections, u32, Option<&[u8]>, u32, Option<u64>); 10] = [
         (INDEXED, 0, Some(b"a.c"), 0, None),
         (INDEXED, 1, Some(b"int"), 1, None),
         (INDEXED, 2, Some(b"f"), 2, Some(0x1000)),
@@ -208,26 +214,33 @@ fn each_entry_has_its_name_origin_and_address(rt: HostRuntime) -> Result<(), Fai
     ];
     for (sections, e, name, origin, address) in rows {
         match tree(rt.alloc(), sections) {
-            Ok(dwarf) => assert_eq!(rt; said(&dwarf, e), (name, origin, address), "{e}"),
+            Ok(dwarf) => {
+                let wanted = (name, EntryNumber::new(origin), address);
+                assert_eq!(rt; said(&dwarf, EntryNumber::new(e)), wanted, "{e}");
+            }
             Err(refused) => assert!(rt; false, "{refused:?}"),
         }
     }
     Ok(())
 }
 
+fn entry(number: u32) -> Option<EntryNumber> {
+    Some(EntryNumber::new(number))
+}
+
 // Worked by hand from DWARF 5, sections 2.17, 3.1.4 and 7.32.
 #[test]
 fn entries_stand_for_addresses_and_signatures(rt: HostRuntime) -> Result<(), Fail> {
     let rows = [
-        (INDEXED, 0x1000, Some(2), None),
+        (INDEXED, 0x1000, entry(2), None),
         (INDEXED, 0x1001, None, None),
-        (sections(CHAIN_ABBREVS, CHAIN), 0x1000, Some(6), None),
-        (sections(ABBREVS, TYPE_UNIT), 0x1000, Some(3), None),
+        (sections(CHAIN_ABBREVS, CHAIN), 0x1000, entry(6), None),
+        (sections(ABBREVS, TYPE_UNIT), 0x1000, entry(3), None),
         (
             sections(ABBREVS, TYPE_UNIT),
             0x8877_6655_4433_2211,
             None,
-            Some(1),
+            entry(1),
         ),
     ];
     for (sections, number, typed, signed) in rows {
@@ -248,10 +261,15 @@ fn a_name_is_taken_along_the_chain_and_an_address_is_not(rt: HostRuntime) -> Res
     match tree(rt.alloc(), sections(CHAIN_ABBREVS, CHAIN)) {
         Ok(dwarf) => {
             assert_eq!(rt; dwarf.len(), 8);
-            assert_eq!(rt; dwarf.own(7, 0x03), None);
-            assert_eq!(rt; dwarf.attr(7, 0x03), Some(Value::Inline { from: 47 }));
-            assert_eq!(rt; dwarf.attr(6, 0x11), Some(Value::Address(0x1000)));
-            assert_eq!(rt; dwarf.attr(7, 0x11), None);
+            let origin = EntryNumber::new(6);
+            let function = EntryNumber::new(7);
+            assert_eq!(rt; dwarf.own(function, 0x03), None);
+            assert_eq!(rt;
+                dwarf.attr(function, 0x03),
+                Some(Value::Inline { from: 47 })
+            );
+            assert_eq!(rt; dwarf.attr(origin, 0x11), Some(Value::Address(0x1000)));
+            assert_eq!(rt; dwarf.attr(function, 0x11), None);
             assert_eq!(rt; dwarf.info(), CHAIN);
         }
         Err(refused) => assert!(rt; false, "{refused:?}"),
@@ -265,12 +283,17 @@ fn children_of_a_tag_are_listed(rt: HostRuntime) -> Result<(), Fail> {
     match tree(rt.alloc(), sections(CHAIN_ABBREVS, CHAIN)) {
         Ok(dwarf) => {
             assert_eq!(rt; dwarf.len(), 8);
-            let functions = dwarf.tagged(rt.alloc(), 0, 0x2e)?;
-            assert_eq!(rt; functions.as_slice(), [1, 2, 3, 5, 6, 7].as_slice());
-            assert_eq!(rt; dwarf.next_child(0, None), Some(1));
-            assert_eq!(rt; dwarf.find(37), Some(5));
-            assert_eq!(rt; dwarf.target(&Value::Reference(30)), Some(4));
-            assert!(rt; dwarf.is_declaration(1));
+            let root = EntryNumber::new(0);
+            let functions = dwarf.tagged(rt.alloc(), root, 0x2e)?;
+            assert_eq!(rt;
+                functions.as_slice(),
+                [1, 2, 3, 5, 6, 7].map(EntryNumber::new).as_slice()
+            );
+            assert_eq!(rt; dwarf.next_child(root, None), entry(1));
+            assert_eq!(rt; dwarf.find(DebugInfoOffset::new(37)), entry(5));
+            let block = Value::Reference(DebugInfoOffset::new(30));
+            assert_eq!(rt; dwarf.target(&block), entry(4));
+            assert!(rt; dwarf.is_declaration(EntryNumber::new(1)));
         }
         Err(refused) => assert!(rt; false, "{refused:?}"),
     }

@@ -3,7 +3,7 @@ ghost use Rattle.std.specs.Prelude.{◌≤◌, length};
 ghost use Rattle.abi_base.specs.Limits.{input_limit};
 
 use abi_base::NoMemory;
-use dwarf_forms::Sections;
+use dwarf_forms::{DebugInfoOffset, Sections};
 use entry_places::{DeclarationPlace, EntryPlaces};
 use std::alloc::Global;
 use std::process::Abort;
@@ -88,7 +88,7 @@ fn check_places(
 ) -> Result<(), NoMemory> {
     for row in rows.lines() {
         let (offset, wanted) = cut(row);
-        let place = places.place_of(alloc, number(offset))?;
+        let place = places.place_of(alloc, DebugInfoOffset::new(number(offset)))?;
         expect_place(rt, place.as_ref(), wanted);
     }
     Ok(())

@@ -1,8 +1,9 @@
+// Range lists, worked by hand from the standard, and the effort that they take.
 ghost use Rattle.std.specs.Prelude.{◌≤◌, length};
 ghost use Rattle.abi_base.specs.Limits.{input_limit};
 
 use abi_base::{Effort, Fault, FaultKind, INPUT_LIMIT, Limit};
-use dwarf_forms::Sections;
+use dwarf_forms::{DebugInfoOffset, Sections};
 use dwarf_text::Bases;
 use dwarf_text::ranges::*;
 use std::test::*;
@@ -45,94 +46,85 @@ fn sections(lists: &[u8]) -> Sections<'_>
     }
 }
 
-fn fault(kind: FaultKind) -> Result<Option<u64>, Fault> {
-    Err(Fault { kind, at: ENTRY })
-}
+// The position of a list, the bytes of its section, and the address at which its first range begins, or the fault. Worked by hand
+// from DWARF 5, section 7.25, and DWARF 4, section 2.17.3.
+const ROWS: [(ListAt, &[u8], Result<Option<u64>, FaultKind>); 22] = [
+    (
+        ListAt::Offset(0),
+        &[7, 0, 0x10, 0, 0, 0, 0, 0, 0, 0x10, 0],
+        Ok(Some(4096)),
+    ),
+    (ListAt::Offset(0), &[4, 8, 0x10, 0], Ok(Some(8200))),
+    (ListAt::Offset(0), &[4, 8, 8, 0], Ok(Some(8200))),
+    (ListAt::Offset(0), &[0], Ok(None)),
+    (ListAt::Offset(0), &[8], Err(FaultKind::Ranges)),
+    (ListAt::Offset(0), &[], Err(FaultKind::Ranges)),
+    (ListAt::Offset(0), &[4, 8], Err(FaultKind::Ranges)),
+    (ListAt::Offset(0), &[2, 0, 1, 0], Ok(Some(0x1000))),
+    (ListAt::Offset(0), &[2, 1, 2, 0], Err(FaultKind::Index)),
+    (ListAt::Offset(0), &[3, 2], Err(FaultKind::Index)),
+    (ListAt::Offset(0), &[3, 1], Err(FaultKind::Ranges)),
+    (ListAt::Offset(0), &[1, 1, 4, 8, 9, 0], Ok(Some(0x3008))),
+    (
+        ListAt::Offset(0),
+        &[5, 0, 0x40, 0, 0, 0, 0, 0, 0, 4, 8, 9, 0],
+        Ok(Some(0x4008)),
+    ),
+    (
+        ListAt::Offset(0),
+        &[
+            5, 0xff, 0xff, 0xff, 0xff, 0xff, 0xff, 0xff, 0xff, 4, 8, 9, 0,
+        ],
+        Ok(Some(7)),
+    ),
+    (
+        ListAt::Offset(0),
+        &[6, 0, 0x50, 0, 0, 0, 0, 0, 0, 0, 0x60, 0, 0, 0, 0, 0, 0, 0],
+        Ok(Some(0x5000)),
+    ),
+    (ListAt::Offset(1), &[8, 4, 8, 9, 0], Ok(Some(8200))),
+    (
+        ListAt::Index(1),
+        &[8, 0, 0, 0, 9, 0, 0, 0, 0, 4, 8, 9, 0],
+        Ok(Some(8200)),
+    ),
+    (
+        ListAt::Index(1),
+        &[8, 0, 0, 0, 9, 0, 0],
+        Err(FaultKind::Index),
+    ),
+    (ListAt::Index(0), &[5, 0, 0, 0], Err(FaultKind::Ranges)),
+    (
+        ListAt::Pairs(0),
+        &[
+            0xff, 0xff, 0xff, 0xff, 0xff, 0xff, 0xff, 0xff, 0, 0x20, 0, 0, 0, 0, 0, 0, 8, 0, 0, 0,
+            0, 0, 0, 0, 0x10, 0, 0, 0, 0, 0, 0, 0,
+        ],
+        Ok(Some(8200)),
+    ),
+    (ListAt::Pairs(0), &[0; 15], Err(FaultKind::Ranges)),
+    (ListAt::Pairs(0), &[0; 16], Ok(None)),
+];
 
-// The position of a list, the bytes of its section, and the address at which its first range begins.
-#[derive(Drop)]
-struct Row<'a> {
-    list: ListAt,
-    bytes: &'a [u8],
-    want: Result<Option<u64>, Fault>,
-}
-
-fn at<'a>(list: ListAt, bytes: &'a [u8], want: Result<Option<u64>, Fault>) -> Row<'a> {
-    Row { list, bytes, want }
-}
-
-fn first<'a>(bytes: &'a [u8], want: Result<Option<u64>, Fault>) -> Row<'a> {
-    at(ListAt::Offset(0), bytes, want)
-}
-
-fn pairs<'a>(bytes: &'a [u8], want: Result<Option<u64>, Fault>) -> Row<'a> {
-    at(ListAt::Pairs(0), bytes, want)
-}
-
-// Worked by hand from DWARF 5, section 7.25, and DWARF 4, section 2.17.3.
 #[test]
 fn each_list_begins_where_its_first_range_does(rt: HostRuntime) {
-    let rows = [
-        first(&[7, 0, 0x10, 0, 0, 0, 0, 0, 0, 0x10, 0], Ok(Some(4096))),
-        first(&[4, 8, 0x10, 0], Ok(Some(8200))),
-        first(&[4, 8, 8, 0], Ok(Some(8200))),
-        first(&[0], Ok(None)),
-        first(&[8], fault(FaultKind::Ranges)),
-        first(&[], fault(FaultKind::Ranges)),
-        first(&[4, 8], fault(FaultKind::Ranges)),
-        first(&[2, 0, 1, 0], Ok(Some(0x1000))),
-        first(&[2, 1, 2, 0], fault(FaultKind::Index)),
-        first(&[3, 2], fault(FaultKind::Index)),
-        first(&[3, 1], fault(FaultKind::Ranges)),
-        first(&[1, 1, 4, 8, 9, 0], Ok(Some(0x3008))),
-        first(
-            &[5, 0, 0x40, 0, 0, 0, 0, 0, 0, 4, 8, 9, 0],
-            Ok(Some(0x4008)),
-        ),
-        first(
-            &[
-                5, 0xff, 0xff, 0xff, 0xff, 0xff, 0xff, 0xff, 0xff, 4, 8, 9, 0,
-            ],
-            Ok(Some(7)),
-        ),
-        first(
-            &[6, 0, 0x50, 0, 0, 0, 0, 0, 0, 0, 0x60, 0, 0, 0, 0, 0, 0, 0],
-            Ok(Some(0x5000)),
-        ),
-        at(ListAt::Offset(1), &[8, 4, 8, 9, 0], Ok(Some(8200))),
-        at(
-            ListAt::Index(1),
-            &[8, 0, 0, 0, 9, 0, 0, 0, 0, 4, 8, 9, 0],
-            Ok(Some(8200)),
-        ),
-        at(
-            ListAt::Index(1),
-            &[8, 0, 0, 0, 9, 0, 0],
-            fault(FaultKind::Index),
-        ),
-        at(ListAt::Index(0), &[5, 0, 0, 0], fault(FaultKind::Ranges)),
-        pairs(
-            &[
-                0xff, 0xff, 0xff, 0xff, 0xff, 0xff, 0xff, 0xff, 0, 0x20, 0, 0, 0, 0, 0, 0, 8, 0, 0,
-                0, 0, 0, 0, 0, 0x10, 0, 0, 0, 0, 0, 0, 0,
-            ],
-            Ok(Some(8200)),
-        ),
-        pairs(&[0; 15], fault(FaultKind::Ranges)),
-        pairs(&[0; 16], Ok(None)),
-    ];
-    for row in &rows {
-        assert!(rt; row.bytes.len() <= INPUT_LIMIT);
-        let found = first_address(row.list, &BASES, &sections(row.bytes), ENTRY);
-        assert_eq!(rt; found, row.want, "at {:?} of {:?}", row.list, row.bytes);
+    for (list, bytes, want) in ROWS {
+        assert!(rt; bytes.len() <= INPUT_LIMIT);
+        let found = first_address(list, &BASES, &sections(bytes), DebugInfoOffset::new(ENTRY));
+        let want = want.map_err(|kind| Fault { kind, at: ENTRY });
+        assert_eq!(rt; found, want, "at {list:?} of {bytes:?}");
     }
     let without_bases = first_address(
         ListAt::Index(0),
         &NO_BASES,
         &sections(&[4, 0, 0, 0, 0]),
-        ENTRY,
+        DebugInfoOffset::new(ENTRY),
     );
-    assert_eq!(rt; without_bases, fault(FaultKind::Index));
+    let fault = Fault {
+        kind: FaultKind::Index,
+        at: ENTRY,
+    };
+    assert_eq!(rt; without_bases, Err(fault));
 }
 
 // The effort for one byte.

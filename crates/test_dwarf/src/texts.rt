@@ -1,5 +1,6 @@
+// The strings and addresses that values denote, worked by hand from the standard.
 use abi_base::{Fault, FaultKind};
-use dwarf_forms::{Sections, Value};
+use dwarf_forms::{DebugInfoOffset, DebugLineStrOffset, DebugStrOffset, Sections, Value};
 use dwarf_text::*;
 use std::test::*;
 
@@ -43,9 +44,17 @@ fn each_value_stands_for_its_text(rt: HostRuntime) {
     let rows: [(Value, Bases, Result<&[u8], Fault>); 11] = [
         (Value::Inline { from: 1 }, BASES, Ok(b"b")),
         (Value::Inline { from: 3 }, BASES, fault(FaultKind::Text)),
-        (Value::StrOffset(3), BASES, Ok(b"fg")),
-        (Value::StrOffset(7), BASES, fault(FaultKind::Text)),
-        (Value::LineOffset(0), BASES, Ok(b"")),
+        (Value::StrOffset(DebugStrOffset::new(3)), BASES, Ok(b"fg")),
+        (
+            Value::StrOffset(DebugStrOffset::new(7)),
+            BASES,
+            fault(FaultKind::Text),
+        ),
+        (
+            Value::LineOffset(DebugLineStrOffset::new(0)),
+            BASES,
+            Ok(b""),
+        ),
         (Value::StrIndex(0), BASES, Ok(b"fg")),
         (Value::StrIndex(1), BASES, fault(FaultKind::Text)),
         (Value::StrIndex(2), BASES, fault(FaultKind::Index)),
@@ -57,8 +66,9 @@ fn each_value_stands_for_its_text(rt: HostRuntime) {
         (Value::StrIndex(0), NO_BASES, fault(FaultKind::Index)),
         (Value::Unsigned(0), BASES, fault(FaultKind::Text)),
     ];
+    let entry = DebugInfoOffset::new(ENTRY);
     for (value, bases, want) in &rows {
-        assert_eq!(rt; text(value, bases, &SECTIONS, ENTRY), *want, "{value:?}");
+        assert_eq!(rt; text(value, bases, &SECTIONS, entry), *want, "{value:?}");
     }
 }
 
@@ -77,7 +87,8 @@ fn each_value_stands_for_its_address(rt: HostRuntime) {
         (Value::AddressIndex(1), NO_BASES, fault(FaultKind::Index)),
         (Value::Unsigned(7), BASES, fault(FaultKind::Index)),
     ];
+    let entry = DebugInfoOffset::new(ENTRY);
     for (value, bases, want) in &rows {
-        assert_eq!(rt; address(value, bases, &SECTIONS, ENTRY), *want, "{value:?}");
+        assert_eq!(rt; address(value, bases, &SECTIONS, entry), *want, "{value:?}");
     }
 }

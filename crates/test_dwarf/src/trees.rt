@@ -3,8 +3,8 @@ ghost use Rattle.std.specs.Prelude.{◌<◌, ◌≤◌, length};
 ghost use Rattle.abi_base.specs.Limits.{input_limit};
 
 use abi_base::{Fault, FaultKind, Refusal};
-use dwarf_forms::{Sections, Value};
-use dwarf_tree::{Head, Tree, read_tree};
+use dwarf_forms::{DebugInfoOffset, Sections, Value};
+use dwarf_tree::{EntryNumber, Head, Tree, read_tree};
 use std::alloc::{AllocError, Global};
 use std::test::Fail;
 
@@ -44,8 +44,12 @@ fn sections<'a>(info: &'a [u8], abbrevs: &'a [u8]) -> Sections<'a>
     }
 }
 
+fn entry(number: u32) -> Option<EntryNumber> {
+    Some(EntryNumber::new(number))
+}
+
 // The first three children of an entry.
-fn children(tree: &Tree<'_>, e: usize) -> [Option<usize>; 3]
+fn children(tree: &Tree<'_>, e: EntryNumber) -> [Option<EntryNumber>; 3]
     requires { e < length tree.now.entries }
 {
     let first = tree.next_child(e, None);
@@ -64,25 +68,27 @@ fn children(tree: &Tree<'_>, e: usize) -> [Option<usize>; 3]
 fn entries_of_all_units_are_one_list(rt: HostRuntime) -> Result<(), Fail> {
     let tree = read_tree(rt.alloc(), &sections(INFO, ABBREVS))?;
     let rows = [
-        (12, 0, 0x11, 0, [Some(1), Some(5), None]),
-        (14, 1, 0x13, 0, [Some(2), Some(4), None]),
-        (18, 2, 0x13, 0, [Some(3), None, None]),
+        (12, 0, 0x11, 0, [entry(1), entry(5), None]),
+        (14, 1, 0x13, 0, [entry(2), entry(4), None]),
+        (18, 2, 0x13, 0, [entry(3), None, None]),
         (22, 3, 0x0d, 0, [None, None, None]),
         (26, 2, 0x0d, 0, [None, None, None]),
         (30, 1, 0x24, 0, [None, None, None]),
-        (60, 0, 0x41, 1, [Some(7), None, None]),
+        (60, 0, 0x41, 1, [entry(7), None, None]),
         (61, 1, 0x24, 1, [None, None, None]),
     ];
     assert_eq!(rt; tree.len(), rows.len());
-    for e in 0..tree.len() {
+    tree.known();
+    for number in 0..tree.len() {
+        let e = EntryNumber::new(number as u32);
         let row = (
-            tree.offset(e),
+            tree.offset(e).get(),
             tree.depth(e),
             tree.tag(e),
             tree.unit(e),
             children(&tree, e),
         );
-        assert_eq!(rt; rows.get(e), Some(&row), "at {e}");
+        assert_eq!(rt; rows.get(number), Some(&row), "at {number}");
     }
     Ok(())
 }
@@ -92,15 +98,15 @@ fn entries_are_found(rt: HostRuntime) -> Result<(), Fail> {
     let tree = read_tree(rt.alloc(), &sections(INFO, ABBREVS))?;
     for (offset, e) in [
         (0, None),
-        (12, Some(0)),
+        (12, entry(0)),
         (13, None),
-        (22, Some(3)),
+        (22, entry(3)),
         (25, None),
-        (60, Some(6)),
-        (61, Some(7)),
+        (60, entry(6)),
+        (61, entry(7)),
         (66, None),
     ] {
-        assert_eq!(rt; tree.find(offset), e, "at {offset}");
+        assert_eq!(rt; tree.find(DebugInfoOffset::new(offset)), e, "at {offset}");
     }
     Ok(())
 }
@@ -112,7 +118,11 @@ fn units_have_heads_and_roots(rt: HostRuntime) -> Result<(), Fail> {
     assert_eq!(rt; tree.units_len(), rows.len());
     for unit in 0..tree.units_len() {
         let head = tree.head(unit);
-        let row = (head.signature, head.type_entry, tree.root(unit));
+        let row = (
+            head.signature,
+            head.type_entry.get(),
+            tree.root(unit).index(),
+        );
         assert_eq!(rt; rows.get(unit), Some(&row), "at {unit}");
         assert_eq!(rt; head.version, 5, "at {unit}");
     }
@@ -130,8 +140,9 @@ fn the_first_value_is_an_entrys_own(rt: HostRuntime) -> Result<(), Fail> {
         (5, 0x03, Some(Value::Inline { from: 32 })),
         (7, 0x0b, Some(Value::Unsigned(1))),
     ] {
-        assert!(rt; e < tree.len());
-        assert_eq!(rt; tree.own(e, name), value, "at {e}");
+        let entry = EntryNumber::new(e);
+        assert!(rt; entry.index() < tree.len());
+        assert_eq!(rt; tree.own(entry, name), value, "at {e}");
     }
     Ok(())
 }
@@ -141,13 +152,14 @@ fn children_of_a_tag_are_listed(rt: HostRuntime) -> Result<(), Fail> {
     let tree = read_tree(rt.alloc(), &sections(INFO, ABBREVS))?;
     // DW_TAG_structure_type is 0x13, DW_TAG_member 0x0d, DW_TAG_base_type 0x24.
     for (e, tag, list) in [
-        (0, 0x13, &[1][..]),
-        (0, 0x24, &[5][..]),
+        (0, 0x13, &[EntryNumber::new(1)][..]),
+        (0, 0x24, &[EntryNumber::new(5)][..]),
         (0, 0x0d, &[][..]),
-        (1, 0x0d, &[4][..]),
+        (1, 0x0d, &[EntryNumber::new(4)][..]),
     ] {
-        assert!(rt; e < tree.len());
-        let found = tree.tagged(rt.alloc(), e, tag)?;
+        let entry = EntryNumber::new(e);
+        assert!(rt; entry.index() < tree.len());
+        let found = tree.tagged(rt.alloc(), entry, tag)?;
         assert_eq!(rt; found.as_slice(), list, "at {e}");
     }
     Ok(())
@@ -180,8 +192,9 @@ fn values_without_bytes_take_no_room(rt: HostRuntime) -> Result<(), Fail> {
         assert!(rt; abbrevs.len() < 2_000 && info.len() < 2_000);
         let tree = read_tree(rt.alloc(), &sections(&info, &abbrevs))?;
         assert_eq!(rt; tree.len(), MANY + 1);
-        assert_eq!(rt; tree.own(MANY, name), Some(value));
-        assert_eq!(rt; tree.own(MANY, 0x03), None);
+        let last = EntryNumber::new(MANY as u32);
+        assert_eq!(rt; tree.own(last, name), Some(value));
+        assert_eq!(rt; tree.own(last, 0x03), None);
     }
     Ok(())
 }

@@ -53,7 +53,7 @@ pub fn node<'a, Ix: Index>(
     })
 }
 
-/// The node of void, which stands first in each graph.
+/// The node of void, which is the first in each graph.
 pub fn void<'a, Ix: Index>(alloc: Global) -> Result<Node<'a, Ix>, NoMemory>
     ensures { IfOk result (λ node. node ≡ made_node 0 0 Kind.Void 0 []) }
 {

@@ -171,7 +171,7 @@ fn symbol_of(export: &Export) -> u32
     export.symbol
 }
 
-// Whether the exports stand in order of their symbol numbers.
+// Whether the exports are in order of their symbol numbers.
 fn are_numbered(exports: &[Export]) -> bool
     ensures { IsTrue result ↔ AreNumbered (plain_exports exports.now) }
 {

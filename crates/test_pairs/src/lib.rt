@@ -6,4 +6,6 @@ mod checks;
 #[cfg(test)]
 mod classes;
 #[cfg(test)]
+mod spelled;
+#[cfg(test)]
 mod words;

@@ -1,3 +1,4 @@
+// The bytes of the images that `test_images` builds.
 use std::alloc::AllocError;
 use test_images::constants::{SHT_PROGBITS, VER_FLG_BASE, VERSYM_HIDDEN};
 use test_images::*;

@@ -8,7 +8,11 @@ mod explorations;
 #[cfg(test)]
 mod listeners;
 #[cfg(test)]
+mod part_details;
+#[cfg(test)]
 mod reports;
+#[cfg(test)]
+mod rows;
 #[cfg(test)]
 mod spelled;
 #[cfg(test)]

@@ -1,4 +1,4 @@
-// Listeners that are written outside the crate of reports: they are told, closed and dropped in order.
+// Listeners that are written outside the crate of reports: they hear their rows, and are closed and dropped, in order.
 ghost use Rattle.std.specs.Prelude.{◌≡◌, [], All, IfOk};
 
 use abi_base::{List, NoMemory};

@@ -96,7 +96,7 @@ fn members_of_no_width_and_bit_fields(rt: HostRuntime) -> Result<(), Fail> {
     Ok(())
 }
 
-// The first member that shares bits is named, and a member that ends outside stands last.
+// The first member that shares bits is named, and a member that ends outside comes last.
 #[test]
 fn clashes_stand_behind_members(rt: HostRuntime) -> Result<(), Fail> {
     let rows = rows(rt.alloc(), &[(0, 64), (8, 8), (60, 8), (128, 8)], 128)?;

@@ -1,6 +1,8 @@
+// The entries that types reach, and the facts about them.
 use crate::sections::dwarf;
 use abi_base::{FaultKind, NoMemory, Refusal};
 use dwarf_entries::Dwarf;
+use dwarf_forms::DebugInfoOffset;
 use std::alloc::Global;
 use std::process::Abort;
 use std::test::*;
@@ -37,7 +39,7 @@ const TYPES: &[u8] =
 
 // The entries reached from the entry at an offset, in order of offset.
 fn listed(alloc: Global, dwarf: &Dwarf, offset: u64) -> Result<ReachedEntries, NoMemory> {
-    match dwarf.find(offset) {
+    match dwarf.find(DebugInfoOffset::new(offset)) {
         Some(root) => reached(alloc, dwarf, &[root]),
         None => reached(alloc, dwarf, &[]),
     }
@@ -48,8 +50,8 @@ fn offsets(alloc: Global, dwarf: &Dwarf, found: &ReachedEntries) -> Result<Vec<u
     let mut offsets = Vec::new(alloc);
     for number in 0..found.len() {
         let e = found.at(number);
-        if e < dwarf.len() {
-            offsets.push(dwarf.offset(e))?;
+        if e.index() < dwarf.len() {
+            offsets.push(dwarf.offset(e).get())?;
         }
     }
     Ok(offsets)
@@ -57,7 +59,7 @@ fn offsets(alloc: Global, dwarf: &Dwarf, found: &ReachedEntries) -> Result<Vec<u
 
 // The facts of the entry at an offset.
 fn facts(alloc: Global, dwarf: &Dwarf, offset: u64) -> Result<Option<Facts>, Refusal> {
-    let Some(root) = dwarf.find(offset) else {
+    let Some(root) = dwarf.find(DebugInfoOffset::new(offset)) else {
         return Ok(None);
     };
     let found = reached(alloc, dwarf, &[root])?;

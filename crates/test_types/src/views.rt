@@ -1,7 +1,9 @@
+// The nodes that types get from their entries: sizes, ranks, labels, parts and members.
 use crate::sections::dwarf;
 use abi_base::{FaultKind, NoMemory, Refusal};
 use abi_types::{Graph, Index, OldIx, Part};
 use dwarf_entries::Dwarf;
+use dwarf_forms::DebugInfoOffset;
 use std::alloc::Global;
 use std::process::Abort;
 use std::test::*;
@@ -29,7 +31,7 @@ const NO_ENCODING: &[u8] =
 // The graph of the types reached from the entry at an offset.
 fn graph<'a>(alloc: Global, dwarf: &Dwarf<'a>, offset: u64) -> Result<Graph<'a, OldIx>, Refusal> {
     let limits = GraphLimits::for_file(0);
-    match dwarf.find(offset) {
+    match dwarf.find(DebugInfoOffset::new(offset)) {
         Some(root) => raw_graph(alloc, dwarf, &[root], limits),
         None => raw_graph(alloc, dwarf, &[], limits),
     }

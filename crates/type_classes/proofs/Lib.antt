@@ -1,5 +1,6 @@
 mod AlikeLemmas
 mod BlockLemmas
+mod BlockCuts
 mod BlockSplits
 mod ClassLemmas
 mod EdgeLemmas
@@ -10,6 +11,8 @@ mod RefineLemmas
 mod RepLemmas
 mod SameLemmas
 mod ShapeLemmas
+mod SpelledLists
+mod SpelledPlaces
 mod SpellingLemmas
 mod SplitLemmas
 pub mod lemmas

@@ -1,9 +1,8 @@
 -- A spelling tells what it spells, and where it ends.
-use Rattle.std.proofs.Common.{◌≡◌, ◌+◌, ◌*◌, ◌/◌, ◌%◌, ◌<◌, ℕ, suc, eqb, Bool, true, false, List, [], ◌∷◌, ◌++◌, length, map, refl, sym, ◌∙◌, ap, arith, append_assoc}
+use Rattle.std.proofs.Common.{◌≡◌, ◌+◌, ◌*◌, ◌<◌, ℕ, eqb, Bool, true, false, List, [], ◌∷◌, ◌++◌, length, map, refl, sym, ◌∙◌, ap, arith, append_assoc}
 use Rattle.std.specs.Prelude.{◌↔◌, flat_map}
 use Rattle.std.proofs.lemmas.Bool.{eq-eqb, false≢true}
 use Rattle.std.proofs.lemmas.List.{length-map}
-use Rattle.std.proofs.lemmas.Nat.{div-mul-add, mod-mul-add}
 use Rattle.abi_base.proofs.lemmas.Lists.{append_none}
 use Rattle.abi_types.specs.declared.kind.Kind.{Kind}
 use Rattle.abi_types.specs.declared.kind.Kind.TheVariants as kind
@@ -11,173 +10,13 @@ use Rattle.abi_types.specs.declared.kind.Group.{Group}
 use Rattle.abi_types.specs.declared.kind.Group.TheVariants as group
 use Rattle.abi_types.specs.declared.kind.LabelKind.{LabelKind}
 use Rattle.abi_types.specs.declared.kind.LabelKind.TheVariants as label
-use Rattle.abi_types.specs.declared.place.Slot.{Slot}
-use Rattle.abi_types.specs.declared.place.Slot.TheVariants as slot
-use Rattle.abi_types.specs.declared.place.Place.{Place}
-use Rattle.abi_types.specs.declared.place.Place.TheVariants as place
 use Rattle.abi_types.specs.declared.place.CallShape.{CallShape}
 use Rattle.abi_types.specs.Types.{PlainPart, Member, Enumerator, Target, Element, Outcome, Param, PlainView, PlainLabel, PlainNode}
 use Rattle.pair_rules.specs.Same.{kind_number, group_number, same_kind, same_group}
 use Rattle.abi_types.specs.ClassLooks.{part_seen, view_seen, Look, shape_of}
-use Rattle.type_classes.specs.Shapes.{label_number, slot_number, head_number, truth_number, spelled_list, spelled_slot, spelled_place, spelled_call, spelled_part, spelled_label, spelled_numbers, spelled_view, spelled, letters_of_label, letters_of_part, letters_of}
-
--- A spelling with anything after it tells what a function gives of what is spelled, and what comes after.
-abbrev Tells : {X Y : Type 0} → (X → List ℕ) → (X → Y) → Type 0
-Tells {X} {Y} f h = (a b : X) (s t : List ℕ) → f a ++ s ≡ f b ++ t → (h a ≡ h b) × (s ≡ t)
-
-items_tell : {X Y : Type 0} (f : X → List ℕ) (h : X → Y) → Tells f h → (xs ys : List X) (s t : List ℕ) → length xs ≡ length ys → flat_map f xs ++ s ≡ flat_map f ys ++ t → (map h xs ≡ map h ys) × (s ≡ t)
-items_tell f h tells [] [] s t len e = (refl, e)
-items_tell f h tells [] (y ∷ ys) s t len e = absurd (let u : 0 ≡ suc (length ys) = len in omega arith)
-items_tell f h tells (x ∷ xs) [] s t len e = absurd (let u : suc (length xs) ≡ 0 = len in omega arith)
-items_tell f h tells (x ∷ xs) (y ∷ ys) s t len e =
-    let both : f x ++ (flat_map f xs ++ s) ≡ f y ++ (flat_map f ys ++ t) = sym (append_assoc (f x) (flat_map f xs) s) ∙ e ∙ append_assoc (f y) (flat_map f ys) t in
-    let (here, rest) = tells x y (flat_map f xs ++ s) (flat_map f ys ++ t) both in
-    let lens : length xs ≡ length ys = let u : suc (length xs) ≡ suc (length ys) = len in omega arith in
-    let (later, after) = items_tell f h tells xs ys s t lens rest in
-    (rw (here, later) refl, after)
-
-list_tells : {X Y : Type 0} (f : X → List ℕ) (h : X → Y) → Tells f h → Tells (spelled_list f) (map h)
-unfolding spelled_list
-list_tells f h tells xs ys s t e =
-    let len : length xs ≡ length ys = cc in
-    let rest : flat_map f xs ++ s ≡ flat_map f ys ++ t = cc in
-    items_tell f h tells xs ys s t len rest
-
-same_map : {X : Type 0} (xs : List X) → map (λ x. x) xs ≡ xs
-same_map [] = refl
-same_map (x ∷ xs) = ap (λ ys. x ∷ ys) (same_map xs)
-
--- A spelling and letters, with anything after either, tell what a function gives of what is spelled, and what comes after.
-abbrev TellBoth : {X Y : Type 0} → (X → List ℕ) → (X → List ℕ) → (X → Y) → Type 0
-TellBoth {X} {Y} f g h = (a b : X) (s t u v : List ℕ) → f a ++ s ≡ f b ++ t → g a ++ u ≡ g b ++ v → (h a ≡ h b) × (s ≡ t) × (u ≡ v)
-
--- a name of known length
-name_tells : (m n u v : List ℕ) → length m ≡ length n → m ++ u ≡ n ++ v → (m ≡ n) × (u ≡ v)
-name_tells [] [] u v len e = (refl, e)
-name_tells [] (y ∷ n) u v len e = absurd (let l : 0 ≡ suc (length n) = len in omega arith)
-name_tells (x ∷ m) [] u v len e = absurd (let l : suc (length m) ≡ 0 = len in omega arith)
-name_tells (x ∷ m) (y ∷ n) u v len e =
-    let here : x ≡ y = cc in
-    let more : m ++ u ≡ n ++ v = cc in
-    let lens : length m ≡ length n = let l : suc (length m) ≡ suc (length n) = len in omega arith in
-    let (later, after) = name_tells m n u v lens more in
-    (rw (here, later) refl, after)
-
-items_both : {X Y : Type 0} (f g : X → List ℕ) (h : X → Y) → TellBoth f g h → (xs ys : List X) (s t u v : List ℕ) → length xs ≡ length ys → flat_map f xs ++ s ≡ flat_map f ys ++ t → flat_map g xs ++ u ≡ flat_map g ys ++ v
-    → (map h xs ≡ map h ys) × (s ≡ t) × (u ≡ v)
-items_both f g h tell [] [] s t u v len e l = (refl, e, l)
-items_both f g h tell [] (y ∷ ys) s t u v len e l = absurd (let n : 0 ≡ suc (length ys) = len in omega arith)
-items_both f g h tell (x ∷ xs) [] s t u v len e l = absurd (let n : suc (length xs) ≡ 0 = len in omega arith)
-items_both f g h tell (x ∷ xs) (y ∷ ys) s t u v len e l =
-    let numbers : f x ++ (flat_map f xs ++ s) ≡ f y ++ (flat_map f ys ++ t) = sym (append_assoc (f x) (flat_map f xs) s) ∙ e ∙ append_assoc (f y) (flat_map f ys) t in
-    let letters : g x ++ (flat_map g xs ++ u) ≡ g y ++ (flat_map g ys ++ v) = sym (append_assoc (g x) (flat_map g xs) u) ∙ l ∙ append_assoc (g y) (flat_map g ys) v in
-    let (here, rest, more) = tell x y (flat_map f xs ++ s) (flat_map f ys ++ t) (flat_map g xs ++ u) (flat_map g ys ++ v) numbers letters in
-    let lens : length xs ≡ length ys = let n : suc (length xs) ≡ suc (length ys) = len in omega arith in
-    let (later, after, last) = items_both f g h tell xs ys s t u v lens rest more in
-    (rw (here, later) refl, after, last)
-
-list_both : {X Y : Type 0} (f g : X → List ℕ) (h : X → Y) → TellBoth f g h → TellBoth (spelled_list f) (flat_map g) (map h)
-unfolding spelled_list
-list_both f g h tell xs ys s t u v e l =
-    let len : length xs ≡ length ys = cc in
-    let rest : flat_map f xs ++ s ≡ flat_map f ys ++ t = cc in
-    items_both f g h tell xs ys s t u v len rest l
-
--- ---- slots and places
-
-slot_tag : Slot → ℕ
-slot_tag slot.Unused = 0
-slot_tag (slot.General n) = 1
-slot_tag (slot.Vector n) = 2
-slot_tag (slot.Upper n) = 3
-slot_tag (slot.X87 n) = 4
-
-slot_value : Slot → ℕ
-slot_value slot.Unused = 0
-slot_value (slot.General n) = n
-slot_value (slot.Vector n) = n
-slot_value (slot.Upper n) = n
-slot_value (slot.X87 n) = n
-
-slot_is : (a : Slot) → (slot_number a ≡ 5 * slot_value a + slot_tag a) × (slot_tag a < 5)
-unfolding slot_tag slot_value
-slot_is slot.Unused = (refl, omega arith)
-slot_is (slot.General n) = (refl, omega arith)
-slot_is (slot.Vector n) = (refl, omega arith)
-slot_is (slot.Upper n) = (refl, omega arith)
-slot_is (slot.X87 n) = (refl, omega arith)
-
-slot_same : (a b : Slot) → eqb (slot_tag a) (slot_tag b) ≡ true → slot_value a ≡ slot_value b → a ≡ b
-unfolding slot_tag slot_value
-slot_same slot.Unused slot.Unused tags values = refl
-slot_same (slot.General m) (slot.General n) tags values = ap slot.General values
-slot_same (slot.Vector m) (slot.Vector n) tags values = ap slot.Vector values
-slot_same (slot.Upper m) (slot.Upper n) tags values = ap slot.Upper values
-slot_same (slot.X87 m) (slot.X87 n) tags values = ap slot.X87 values
-slot_same _ _ tags values = absurd (false≢true tags)
-
--- a number tells its last digit and what is before it
-digits_tell : (base p q m n : ℕ) → m < base → n < base → p * base + m ≡ q * base + n → (p ≡ q) × (m ≡ n)
-digits_tell base p q m n small_m small_n e = (
-  sym (div-mul-add p base m small_m) ∙ ap (λ (x : ℕ). x / base) e ∙ div-mul-add q base n small_n,
-  sym (mod-mul-add p base m small_m) ∙ ap (λ (x : ℕ). x % base) e ∙ mod-mul-add q base n small_n,
-)
-
-slot_tells : Tells spelled_slot (λ a. a)
-slot_tells a b s t e =
-    let numbers : slot_number a ≡ slot_number b = cc in
-    let (is_a, small_a) = slot_is a in
-    let (is_b, small_b) = slot_is b in
-    let digits : slot_value a * 5 + slot_tag a ≡ slot_value b * 5 + slot_tag b = let e = sym is_a ∙ numbers ∙ is_b in omega (arith, e) in
-    let (values, tags) = digits_tell 5 (slot_value a) (slot_value b) (slot_tag a) (slot_tag b) small_a small_b digits in
-    (slot_same a b (eq-eqb (slot_tag a) (slot_tag b) tags) values, let u : s ≡ t = cc in u)
-
-place_tag : Place → ℕ
-place_tag place.Nothing = 0
-place_tag (place.Registers eightbytes) = 1
-place_tag (place.Stack offset size) = 2
-place_tag place.Hidden = 3
-
-place_rest : Place → List ℕ
-place_rest place.Nothing = []
-place_rest (place.Registers eightbytes) = spelled_list spelled_slot eightbytes
-place_rest (place.Stack offset size) = offset ∷ size ∷ []
-place_rest place.Hidden = []
-
-place_is : (a : Place) (s : List ℕ) → spelled_place a ++ s ≡ place_tag a ∷ (place_rest a ++ s)
-unfolding place_tag place_rest spelled_place
-place_is place.Nothing s = refl
-place_is (place.Registers eightbytes) s = refl
-place_is (place.Stack offset size) s = refl
-place_is place.Hidden s = refl
-
-place_same : (a b : Place) (s t : List ℕ) → eqb (place_tag a) (place_tag b) ≡ true → place_rest a ++ s ≡ place_rest b ++ t → (a ≡ b) × (s ≡ t)
-unfolding place_tag place_rest
-place_same place.Nothing place.Nothing s t tags rest = (refl, rest)
-place_same (place.Registers xs) (place.Registers ys) s t tags rest =
-    let (same, after) = list_tells spelled_slot (λ (a : Slot). a) slot_tells xs ys s t rest in
-    (ap place.Registers (sym (same_map xs) ∙ same ∙ same_map ys), after)
-place_same (place.Stack m p) (place.Stack n q) s t tags rest = (let u : m ≡ n = cc in let v : p ≡ q = cc in cc, let u : s ≡ t = cc in u)
-place_same place.Hidden place.Hidden s t tags rest = (refl, rest)
-place_same _ _ s t tags rest = absurd (false≢true tags)
-
-place_tells : Tells spelled_place (λ a. a)
-place_tells a b s t e =
-    let both : place_tag a ∷ (place_rest a ++ s) ≡ place_tag b ∷ (place_rest b ++ t) = sym (place_is a s) ∙ e ∙ place_is b t in
-    let tags : place_tag a ≡ place_tag b = cc in
-    let rest : place_rest a ++ s ≡ place_rest b ++ t = cc in
-    place_same a b s t (eq-eqb (place_tag a) (place_tag b) tags) rest
-
-call_tells : Tells spelled_call (λ c. c)
-unfolding spelled_call
-call_tells c d s t e =
-    let both : spelled_place c.outcome ++ (spelled_list spelled_place c.params ++ s) ≡ spelled_place d.outcome ++ (spelled_list spelled_place d.params ++ t) =
-    sym (append_assoc (spelled_place c.outcome) (spelled_list spelled_place c.params) s) ∙ e ∙ append_assoc (spelled_place d.outcome) (spelled_list spelled_place d.params) t in
-    let (outcomes, rest) = place_tells c.outcome d.outcome (spelled_list spelled_place c.params ++ s) (spelled_list spelled_place d.params ++ t) both in
-    let (params, after) = list_tells spelled_place (λ (a : Place). a) place_tells c.params d.params s t rest in
-    let same_params : c.params ≡ d.params = sym (same_map c.params) ∙ params ∙ same_map d.params in
-    let made : Place → List Place → CallShape = λ o ps. record { outcome = o; params = ps } in
-    (ap (λ (o : Place). made o c.params) outcomes ∙ ap (λ (ps : List Place). made d.outcome ps) same_params, after)
+use Rattle.type_classes.specs.Shapes.{label_number, head_number, truth_number, spelled_list, spelled_call, spelled_part, spelled_label, spelled_numbers, spelled_view, spelled, letters_of_label, letters_of_part, letters_of}
+use Rattle.type_classes.proofs.SpelledLists.{TellBoth, digits_tell, list_both, name_tells, same_map}
+use Rattle.type_classes.proofs.SpelledPlaces.{call_tells}
 
 -- ---- parts and labels
 

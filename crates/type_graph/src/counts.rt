@@ -1,7 +1,6 @@
-// How many parts the types of a library have in all, and how many letters their names, counted before they are made. A small file
-// may ask for very many: the members of a nameless structure are members of each structure that holds it, functions may share the
-// parameters of one origin, each typedef of a type of functions has places of its own for the parameters, and names may share their
-// bytes.
+// Counts the parts of all types of a library, and the letters of their names, before they are made. A small file can have very
+// many: the members of a nameless structure are members of each structure that holds it, functions may share the parameters of one
+// origin, each typedef of a function type has places of its own for the parameters, and names may share their bytes.
 ghost use Rattle.std.specs.Prelude.{◌≡◌, ◌<◌, ◌≤◌, ◌+◌, length, slice_get, sum_by, All, Contains, Some, IfOk, IfSome, OnOk};
 ghost use Rattle.type_reach.specs.ByValue.{IsClosed};
 ghost use Rattle.type_reach.specs.TypeReferences.{AreTypeReferences};
@@ -18,6 +17,7 @@ use crate::limits::GraphLimits;
 use crate::parts::enumerators_of;
 use abi_base::{Limit, NoMemory, taken};
 use dwarf_entries::Dwarf;
+use dwarf_tree::EntryNumber;
 use std::alloc::Global;
 use type_reach::laws::laws_of_types;
 use type_reach::{
@@ -33,7 +33,7 @@ pub(crate) struct Room {
 }
 
 impl Room {
-    /// The room within limits.
+    /// The room that these limits leave.
     pub(crate) fn within(limits: GraphLimits) -> Room
         ensures parts { result.parts ≡ limits.parts }
         ensures letters { result.letters ≡ limits.letters }
@@ -69,7 +69,7 @@ impl Room {
 
 // What is left of the room, less one part for each member of a structure or a union and for each member that replaces a nameless one,
 // and less the letters of their names.
-fn after_members(types: &JudgedTypes<'_, '_>, c: usize, left: Room) -> Result<Room, NoMemory>
+fn after_members(types: &JudgedTypes<'_, '_>, c: EntryNumber, left: Room) -> Result<Room, NoMemory>
     requires closed { IsClosed types.now.dwarf.now.tree types.now.found.now }
     requires leads { AreTypeReferences types.now.dwarf.now.tree types.now.found.now types.now.leads.now }
     requires summaries { AreSummaries types.now.dwarf.now types.now.found.now types.now.summaries.now }
@@ -86,7 +86,7 @@ fn after_members(types: &JudgedTypes<'_, '_>, c: usize, left: Room) -> Result<Ro
     let members = members_among(dwarf, c, role_of(dwarf, c), parts);
     let mut rest = left.without_parts(Limit::Members, members.len())?;
     'members: for k in 0..members.len() {
-        if let Some(name) = dwarf.name_of(members[k] as usize) {
+        if let Some(name) = dwarf.name_of(members[k]) {
             rest = rest.without_letters(name.len())?;
             continue;
         }
@@ -102,7 +102,7 @@ fn after_members(types: &JudgedTypes<'_, '_>, c: usize, left: Room) -> Result<Ro
 // What is left of the room, less one part for each parameter of a core that is a function.
 fn after_params(
     types: &JudgedTypes<'_, '_>,
-    core: Option<usize>,
+    core: Option<EntryNumber>,
     left: Room,
 ) -> Result<Room, NoMemory>
     requires closed { IsClosed types.now.dwarf.now.tree types.now.found.now }
@@ -129,7 +129,7 @@ fn after_params(
 fn after_parts(
     types: &JudgedTypes<'_, '_>,
     number: usize,
-    e: usize,
+    e: EntryNumber,
     left: Room,
 ) -> Result<Room, NoMemory>
     requires closed { IsClosed types.now.dwarf.now.tree types.now.found.now }
@@ -149,7 +149,7 @@ fn after_parts(
     }
 }
 
-/// Fails where there are more than so many types.
+/// Fails if there are more than `most` types.
 pub(crate) fn ask_types(types: usize, most: usize) -> Result<(), NoMemory>
     ensures { OnOk result (types ≤ most) }
 {
@@ -177,7 +177,7 @@ pub(crate) fn ask_parts(types: &JudgedTypes<'_, '_>, most: Room) -> Result<(), N
 }
 
 // What is left of a number, less the letters of the names of entries.
-fn after_names(dwarf: &Dwarf, entries: &[usize], left: usize) -> Result<usize, NoMemory>
+fn after_names(dwarf: &Dwarf, entries: &[EntryNumber], left: usize) -> Result<usize, NoMemory>
     requires { All (λ e. e < length dwarf.now.tree.entries) entries.now }
     ensures { IfOk result (λ rest. rest + sum_by (letters_of dwarf.now) entries.now ≡ left) }
 {
@@ -189,7 +189,12 @@ fn after_names(dwarf: &Dwarf, entries: &[usize], left: usize) -> Result<usize, N
 }
 
 // What is left of the room, less one part for each enumerator of an entry, and less the letters of their names.
-fn after_enumerators(alloc: Global, dwarf: &Dwarf, e: usize, left: Room) -> Result<Room, NoMemory>
+fn after_enumerators(
+    alloc: Global,
+    dwarf: &Dwarf,
+    e: EntryNumber,
+    left: Room,
+) -> Result<Room, NoMemory>
     requires { e < length dwarf.now.tree.entries }
     ensures parts { IfOk result (λ rest. rest.parts + enumerators_held dwarf.now e ≡ left.parts) }
     ensures letters { IfOk result (λ rest. rest.letters + enumerator_letters_held dwarf.now e ≡ left.letters) }

@@ -18,6 +18,7 @@ use abi_base::dwarf::{
 };
 use abi_types::Group;
 use dwarf_entries::Dwarf;
+use dwarf_tree::EntryNumber;
 use std::alloc::Global;
 use type_reach::{natural_of, wrapped_of};
 
@@ -39,7 +40,7 @@ fn group_by(encoding: u64) -> Option<Group>
 
 // What the bits of a base type mean; none where its encoding is missing or not listed.
 #[tactic(auto, unfolding(type_reach::specs::Shapes::encoding_group))]
-pub(crate) fn group_of_encoding(dwarf: &Dwarf, e: usize) -> Option<Group>
+pub(crate) fn group_of_encoding(dwarf: &Dwarf, e: EntryNumber) -> Option<Group>
     requires { e < length dwarf.now.tree.entries }
     ensures { result ≡ encoding_group dwarf.now.tree e }
 {
@@ -50,7 +51,7 @@ pub(crate) fn group_of_encoding(dwarf: &Dwarf, e: usize) -> Option<Group>
 }
 
 #[tactic(auto, unfolding(type_reach::specs::Shapes::is_good_enumerator))]
-fn is_good_enumerator(dwarf: &Dwarf, c: usize) -> bool
+fn is_good_enumerator(dwarf: &Dwarf, c: EntryNumber) -> bool
     requires { c < length dwarf.now.tree.entries }
     ensures { result ≡ shapes.is_good_enumerator dwarf.now.tree c }
 {
@@ -58,7 +59,7 @@ fn is_good_enumerator(dwarf: &Dwarf, c: usize) -> bool
 }
 
 // Whether all of these have a constant.
-fn are_good_enumerators(dwarf: &Dwarf, enumerators: &[usize]) -> bool
+fn are_good_enumerators(dwarf: &Dwarf, enumerators: &[EntryNumber]) -> bool
     requires { All (λ c. c < length dwarf.now.tree.entries) enumerators.now }
     ensures { result ≡ list_all (shapes.is_good_enumerator dwarf.now.tree) enumerators.now }
 {
@@ -67,7 +68,11 @@ fn are_good_enumerators(dwarf: &Dwarf, enumerators: &[usize]) -> bool
 
 // Whether all enumerators of an entry have a constant.
 #[tactic(auto, unfolding(type_reach::specs::References::tagged_children))]
-pub(crate) fn good_enumerators(alloc: Global, dwarf: &Dwarf, e: usize) -> Result<bool, NoMemory>
+pub(crate) fn good_enumerators(
+    alloc: Global,
+    dwarf: &Dwarf,
+    e: EntryNumber,
+) -> Result<bool, NoMemory>
     requires { e < length dwarf.now.tree.entries }
     ensures { IfOk result (λ good. good ≡ list_all (shapes.is_good_enumerator dwarf.now.tree) (tagged_children dwarf.now.tree e dw_tag_enumerator)) }
 {
@@ -84,7 +89,7 @@ fn is_quad_name(name: &[u8]) -> bool
 
 /// What the bits of a base type of a size mean.
 #[tactic(auto, unfolding(type_reach::specs::Views::group_of))]
-pub(crate) fn group_of(dwarf: &Dwarf, c: usize, size: u64) -> Group
+pub(crate) fn group_of(dwarf: &Dwarf, c: EntryNumber, size: u64) -> Group
     requires inside { c < length dwarf.now.tree.entries }
     requires size { size ≡ (facts_of dwarf.now (Some c)).size }
     ensures { result ≡ views.group_of dwarf.now c }

@@ -1,5 +1,5 @@
 // The flat members of structures and unions.
-ghost use Rattle.std.specs.Prelude.{◌≡◌, ◌≤◌, ◌+◌, ◌++◌, map, Contains, Some, OnOk};
+ghost use Rattle.std.specs.Prelude.{◌≡◌, ◌≤◌, ◌+◌, ◌∷◌, ◌++◌, [], map, Contains, Some, OnOk};
 ghost use Rattle.abi_base.specs.Limits.{depth_limit};
 ghost use Rattle.type_reach.specs.ByValue.{IsClosed};
 ghost use Rattle.type_reach.specs.TypeReferences.{AreTypeReferences};
@@ -12,6 +12,7 @@ ghost use Rattle.type_graph.specs.Placed as spec;
 
 use crate::judged::JudgedTypes;
 use abi_base::NoMemory;
+use dwarf_tree::EntryNumber;
 use type_reach::laws::laws_of_types;
 use type_reach::{
     Start, Summary, member_type, members_among, parts_at, role_of, summary_at, types_at, width_of,
@@ -23,11 +24,11 @@ pub(crate) struct Placed<'a> {
     pub(crate) name: &'a [u8],
     pub(crate) bit: i128,
     pub(crate) width: u64,
-    pub(crate) to: Option<usize>,
+    pub(crate) to: Option<EntryNumber>,
 }
 
 /// The structure or union whose members replace a nameless member, from the summary of its type.
-pub(crate) fn replacing(of_type: &Summary) -> Option<usize>
+pub(crate) fn replacing(of_type: &Summary) -> Option<EntryNumber>
     ensures { result ≡ spec.replacing of_type.now }
 {
     if of_type.aggregate {
@@ -37,11 +38,19 @@ pub(crate) fn replacing(of_type: &Summary) -> Option<usize>
     }
 }
 
+// Appends an item.
+fn push_item<T: Drop>(items: &mut Vec<T>, item: T) -> Result<(), NoMemory>
+    ensures { OnOk result (items.new.items ≡ items.old.items ++ item ∷ []) }
+{
+    items.push(item)?;
+    Ok(())
+}
+
 /// Appends the flat members of a structure or a union that begins at `base`.
 pub(crate) fn push_flat<'a>(
     types: &JudgedTypes<'_, 'a>,
     out: &mut Vec<Placed<'a>>,
-    c: usize,
+    c: EntryNumber,
     base: Start,
 ) -> Result<(), NoMemory>
     requires closed { IsClosed types.now.dwarf.now.tree types.now.found.now }
@@ -59,18 +68,20 @@ pub(crate) fn push_flat<'a>(
     let leads_to = types_at(dwarf, types.found, types.leads, number, c);
     let members = members_among(dwarf, c, role_of(dwarf, c), parts);
     'members: for k in 0..members.len() {
-        let m = members[k] as usize;
+        let m = members[k];
         let to = member_type(dwarf, c, members, leads_to, k);
-        let of_type = summary_at(dwarf, types.found, types.summaries, to);
+        let target = &to;
+        let of_type = summary_at(dwarf, types.found, types.summaries, *target);
         let start = base.later(dwarf, m, of_type.size);
         if let Some(name) = dwarf.name_of(m) {
             let width = width_of(dwarf, m);
-            out.push(Placed {
+            let member = Placed {
                 name,
                 bit: start.bit,
                 width,
-                to,
-            })?;
+                to: *target,
+            };
+            push_item(out, member)?;
             continue;
         }
         match replacing(&of_type) {

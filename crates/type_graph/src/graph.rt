@@ -13,6 +13,7 @@ use crate::nodes::nodes;
 use abi_base::{List, Refusal};
 use abi_types::{Graph, Index, Node};
 use dwarf_entries::Dwarf;
+use dwarf_tree::EntryNumber;
 use std::alloc::Global;
 use type_reach::{learn_all, reached, summaries_of, type_references_of};
 
@@ -20,7 +21,7 @@ use type_reach::{learn_all, reached, summaries_of, type_references_of};
 fn reached_nodes<'a, Ix: Index>(
     alloc: Global,
     dwarf: &Dwarf<'a>,
-    roots: &[usize],
+    roots: &[EntryNumber],
     limits: GraphLimits,
 ) -> Result<List<Node<'a, Ix>>, Refusal>
     requires { All (λ root. root < length dwarf.now.tree.entries) roots.now }
@@ -59,11 +60,11 @@ fn reached_nodes<'a, Ix: Index>(
 
 /// The graph of the types that the roots reach: the node of void, then one for each reached entry in order of offset. Functions
 /// have no call places yet. The fault is the first one of a shape in order of offset, else the first one of a depth, else the
-/// first one of a size. Past a limit the answer is that memory ran out.
+/// first one of a size. Past a limit it returns `NoMemory`.
 pub fn raw_graph<'a, Ix: Index>(
     alloc: Global,
     dwarf: &Dwarf<'a>,
-    roots: &[usize],
+    roots: &[EntryNumber],
     limits: GraphLimits,
 ) -> Result<Graph<'a, Ix>, Refusal>
     requires { All (λ root. root < length dwarf.now.tree.entries) roots.now }

@@ -1,4 +1,4 @@
-// What was judged of types, in one value.
+// Types whose faults have been judged, in one value.
 use dwarf_entries::Dwarf;
 use type_reach::{ReachedEntries, Summary, TypeReferences};
 

@@ -15,6 +15,7 @@ use crate::limits::{ALIGN_LIMIT, ROOMS_LIMIT, SIZE_LIMIT, WEIGHT_LIMIT};
 use crate::shapes::has_shape;
 use abi_base::{Fault, FaultKind, NoMemory, Refusal};
 use dwarf_entries::Dwarf;
+use dwarf_tree::EntryNumber;
 use std::alloc::Global;
 use type_reach::laws::laws_of_types;
 use type_reach::{Facts, ReachedEntries, TypeReferences, facts_by_number, parts_at, types_at};
@@ -24,9 +25,9 @@ use type_reach::{Facts, ReachedEntries, TypeReferences, facts_by_number, parts_a
 fn shape_fault_of(
     alloc: Global,
     dwarf: &Dwarf,
-    e: usize,
-    parts: &[u32],
-    types: &[Option<u32>],
+    e: EntryNumber,
+    parts: &[EntryNumber],
+    types: &[Option<EntryNumber>],
 ) -> Result<Option<Fault>, NoMemory>
     requires inside { e < length dwarf.now.tree.entries }
     requires parts { parts.now ≡ parts_of dwarf.now.tree e }
@@ -40,7 +41,7 @@ fn shape_fault_of(
     }
     Ok(Some(Fault {
         kind: FaultKind::Shape,
-        at: dwarf.offset(e),
+        at: dwarf.offset(e).get(),
     }))
 }
 
@@ -80,7 +81,7 @@ fn are_too_large(facts: &Facts) -> bool
 }
 
 // Whether an entry with these facts is too large.
-fn is_too_large(dwarf: &Dwarf, e: usize, facts: &Facts) -> bool
+fn is_too_large(dwarf: &Dwarf, e: EntryNumber, facts: &Facts) -> bool
     requires facts { facts.now ≡ facts_of dwarf.now (Some e) }
     requires shallow { IsShallow dwarf.now (Some e) }
     ensures { result ≡ sizes.is_too_large dwarf.now e }
@@ -91,7 +92,7 @@ fn is_too_large(dwarf: &Dwarf, e: usize, facts: &Facts) -> bool
 
 // The fault of an entry's size, if any.
 #[tactic(auto, unfolding(type_reach::specs::Faults::large_fault))]
-fn large_fault_of(dwarf: &Dwarf, e: usize, facts: &Facts) -> Option<Fault>
+fn large_fault_of(dwarf: &Dwarf, e: EntryNumber, facts: &Facts) -> Option<Fault>
     requires inside { e < length dwarf.now.tree.entries }
     requires facts { facts.now ≡ facts_of dwarf.now (Some e) }
     requires shallow { IsShallow dwarf.now (Some e) }
@@ -102,7 +103,7 @@ fn large_fault_of(dwarf: &Dwarf, e: usize, facts: &Facts) -> Option<Fault>
     }
     Some(Fault {
         kind: FaultKind::TooLarge,
-        at: dwarf.offset(e),
+        at: dwarf.offset(e).get(),
     })
 }
 

@@ -17,12 +17,13 @@ use abi_base::dwarf::{
 use abi_base::{Limit, List, NoMemory, taken};
 use abi_types::{Label, LabelKind};
 use dwarf_entries::Dwarf;
+use dwarf_tree::EntryNumber;
 use std::alloc::Global;
 use type_reach::laws::laws_of_types;
 use type_reach::{Role, is_signed, role_of, type_of};
 
 /// The name of an entry; empty where it has none.
-pub(crate) fn name_or_empty<'a>(dwarf: &Dwarf<'a>, e: usize) -> &'a [u8]
+pub(crate) fn name_or_empty<'a>(dwarf: &Dwarf<'a>, e: EntryNumber) -> &'a [u8]
     requires { e < length dwarf.now.tree.entries }
     ensures { result.now ≡ text_or_empty (name_of dwarf.now e) }
 {
@@ -52,7 +53,7 @@ fn label_kind(tag: u64) -> Option<LabelKind>
 fn push_label<'a>(
     dwarf: &Dwarf<'a>,
     labels: &mut Vec<Label<'a>>,
-    e: usize,
+    e: EntryNumber,
     letters: &mut usize,
 ) -> Result<(), NoMemory>
     requires { e < length dwarf.now.tree.entries }
@@ -76,7 +77,7 @@ fn push_label<'a>(
 }
 
 // The type that an entry stands for; none where it is a core.
-fn passed_to(dwarf: &Dwarf, e: usize) -> Option<usize>
+fn passed_to(dwarf: &Dwarf, e: EntryNumber) -> Option<EntryNumber>
     requires { e < length dwarf.now.tree.entries }
     ensures passed { references.role_of dwarf.now.tree e ≡ role.Wrapper → result ≡ references.type_of dwarf.now.tree e }
     ensures last { StandsForNone dwarf.now e → result ≡ None }
@@ -93,7 +94,7 @@ fn passed_to(dwarf: &Dwarf, e: usize) -> Option<usize>
 pub(crate) fn labels_of<'a>(
     alloc: Global,
     dwarf: &Dwarf<'a>,
-    ty: Option<usize>,
+    ty: Option<EntryNumber>,
     letters: &mut usize,
 ) -> Result<List<Label<'a>>, NoMemory>
     requires shallow { IsShallow dwarf.now ty }

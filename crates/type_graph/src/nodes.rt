@@ -18,17 +18,18 @@ use crate::views::view;
 use abi_base::{Limit, List, NoMemory, taken};
 use abi_types::{Index, Node};
 use dwarf_entries::Dwarf;
+use dwarf_tree::EntryNumber;
 use std::alloc::Global;
 use type_reach::laws::laws_of_types;
 use type_reach::summary_at;
 
 // The offset of a type's entry; 0 for void.
-fn offset_of(dwarf: &Dwarf, ty: Option<usize>) -> u64
+fn offset_of(dwarf: &Dwarf, ty: Option<EntryNumber>) -> u64
     requires { IfSome ty (λ e. e < length dwarf.now.tree.entries) }
     ensures { result ≡ views_spec.offset_of dwarf.now.tree ty }
 {
     match ty {
-        Some(e) => dwarf.offset(e),
+        Some(e) => dwarf.offset(e).get(),
         None => 0,
     }
 }
@@ -38,7 +39,7 @@ fn offset_of(dwarf: &Dwarf, ty: Option<usize>) -> u64
 fn node<'a, Ix: Index>(
     alloc: Global,
     types: &JudgedTypes<'_, 'a>,
-    ty: Option<usize>,
+    ty: Option<EntryNumber>,
     letters: &mut usize,
 ) -> Result<Node<'a, Ix>, NoMemory>
     requires closed { IsClosed types.now.dwarf.now.tree types.now.found.now }
@@ -50,11 +51,12 @@ fn node<'a, Ix: Index>(
     ensures letters { IfOk result (λ node. letters.new + type_letters node ≡ letters.old) }
 {
     laws_of_types();
-    let own = summary_at(types.dwarf, types.found, types.summaries, ty);
-    let entry = offset_of(types.dwarf, ty);
-    let view = view(alloc, types, ty, &own)?;
+    let wanted = &ty;
+    let own = summary_at(types.dwarf, types.found, types.summaries, *wanted);
+    let entry = offset_of(types.dwarf, *wanted);
+    let view = view(alloc, types, *wanted, &own)?;
     *letters = taken(Limit::Letters, *letters, view.tag.len())?;
-    let labels = labels_of(alloc, types.dwarf, ty, letters)?;
+    let labels = labels_of(alloc, types.dwarf, *wanted, letters)?;
     Ok(Node {
         entry,
         rank: own.rank,
@@ -97,8 +99,8 @@ fn first_nodes<'a, Ix: Index>(
     Ok(nodes)
 }
 
-/// The nodes of void and of all that was found, in the order of the numbers. It fails where their tags and names have more letters than
-/// so many.
+/// The nodes of void and of all that was found, in the order of the numbers. Fails if their tags and names have more than
+/// `most_letters` letters.
 // A structure, its typedefs, and these with `const` share one list of parts: otherwise most parts of a library would be copies.
 pub(crate) fn nodes<'a, Ix: Index>(
     alloc: Global,

@@ -25,6 +25,7 @@ use abi_base::NoMemory;
 use abi_base::dwarf::{DW_AT_const_value, DW_TAG_enumerator};
 use abi_types::{Index, Part, Parts};
 use dwarf_entries::Dwarf;
+use dwarf_tree::EntryNumber;
 use std::alloc::Global;
 use type_reach::laws::laws_of_types;
 use type_reach::{
@@ -32,7 +33,7 @@ use type_reach::{
 };
 
 // The index of a type's node: void comes first, then the entries in the order of their numbers.
-fn node_of<Ix: Index>(found: &ReachedEntries, ty: Option<usize>) -> Ix
+fn node_of<Ix: Index>(found: &ReachedEntries, ty: Option<EntryNumber>) -> Ix
     requires { IfSome ty (λ e. Contains found.now e) }
     ensures { Ix.number_of result ≡ number_in found.now ty }
 {
@@ -68,7 +69,7 @@ fn member_parts<'a, Ix: Index>(
 {
     let mut parts = Vec::with_capacity(alloc, members.len())?;
     'members: for k in 0..members.len() {
-        let member = members[k];
+        let member = &members[k];
         parts.push(Part::Member {
             name: member.name,
             bit: bit_number(member.bit),
@@ -83,7 +84,7 @@ fn member_parts<'a, Ix: Index>(
 fn aggregate_parts<'a, Ix: Index>(
     alloc: Global,
     types: &JudgedTypes<'_, 'a>,
-    c: usize,
+    c: EntryNumber,
 ) -> Result<Vec<Part<'a, Ix>>, NoMemory>
     requires closed { IsClosed types.now.dwarf.now.tree types.now.found.now }
     requires leads { AreTypeReferences types.now.dwarf.now.tree types.now.found.now types.now.leads.now }
@@ -105,7 +106,7 @@ fn function_parts<'a, Ix: Index>(
     alloc: Global,
     types: &JudgedTypes<'_, 'a>,
     number: usize,
-    c: usize,
+    c: EntryNumber,
 ) -> Result<Vec<Part<'a, Ix>>, NoMemory>
     requires closed { IsClosed types.now.dwarf.now.tree types.now.found.now }
     requires leads { AreTypeReferences types.now.dwarf.now.tree types.now.found.now types.now.leads.now }
@@ -129,7 +130,11 @@ fn function_parts<'a, Ix: Index>(
 
 /// The enumerators of an enumeration. A declaration has none.
 #[tactic(auto, unfolding(type_reach::specs::Views::enumerators_of, type_reach::specs::References::tagged_children))]
-pub(crate) fn enumerators_of(alloc: Global, dwarf: &Dwarf, c: usize) -> Result<Vec<usize>, NoMemory>
+pub(crate) fn enumerators_of(
+    alloc: Global,
+    dwarf: &Dwarf,
+    c: EntryNumber,
+) -> Result<Vec<EntryNumber>, NoMemory>
     requires { c < length dwarf.now.tree.entries }
     ensures enumerators { IfOk result (λ list. list.items ≡ views.enumerators_of dwarf.now.tree c) }
     ensures inside { IfOk result (λ list. All (λ e. e < length dwarf.now.tree.entries) list.items) }
@@ -144,7 +149,7 @@ pub(crate) fn enumerators_of(alloc: Global, dwarf: &Dwarf, c: usize) -> Result<V
 fn enumerator_parts<'a, Ix: Index>(
     alloc: Global,
     dwarf: &Dwarf<'a>,
-    c: usize,
+    c: EntryNumber,
 ) -> Result<Vec<Part<'a, Ix>>, NoMemory>
     requires { c < length dwarf.now.tree.entries }
     ensures { IfOk result (λ parts. map (plain_part Ix.number_of) parts.items ≡ map (enumerator_part dwarf.now) (views.enumerators_of dwarf.now.tree c)) }
@@ -161,7 +166,7 @@ fn enumerator_parts<'a, Ix: Index>(
 }
 
 // The type of an entry that was found.
-fn type_alone(types: &JudgedTypes<'_, '_>, number: usize, c: usize) -> Option<usize>
+fn type_alone(types: &JudgedTypes<'_, '_>, number: usize, c: EntryNumber) -> Option<EntryNumber>
     requires closed { IsClosed types.now.dwarf.now.tree types.now.found.now }
     requires leads { AreTypeReferences types.now.dwarf.now.tree types.now.found.now types.now.leads.now }
     requires at { slice_get types.now.found.now number ≡ Some c }
@@ -181,7 +186,7 @@ pub(crate) fn parts_of_peeled<'a, Ix: Index>(
     alloc: Global,
     types: &JudgedTypes<'_, 'a>,
     number: usize,
-    c: usize,
+    c: EntryNumber,
     role: Role,
 ) -> Result<Parts<'a, Ix>, NoMemory>
     requires closed { IsClosed types.now.dwarf.now.tree types.now.found.now }

@@ -18,6 +18,7 @@ use abi_base::dwarf::{
     DW_TAG_volatile_type,
 };
 use dwarf_entries::Dwarf;
+use dwarf_tree::EntryNumber;
 use std::alloc::Global;
 use type_reach::constants::POINTER_SIZE;
 use type_reach::{Role, is_there, natural_of, place_of, role_of};
@@ -43,18 +44,18 @@ fn is_type_tag(tag: u64) -> bool
     )
 }
 
-fn is_type(dwarf: &Dwarf, ty: Option<u32>) -> bool
+fn is_type(dwarf: &Dwarf, ty: Option<EntryNumber>) -> bool
     requires { IfSome ty (λ e. e < length dwarf.now.tree.entries) }
     ensures { result ≡ shapes.is_type dwarf.now.tree ty }
 {
     match ty {
-        Some(e) => is_type_tag(dwarf.tag(e as usize)),
+        Some(e) => is_type_tag(dwarf.tag(e)),
         None => true,
     }
 }
 
 // Whether all of these are types.
-fn are_types(dwarf: &Dwarf, types: &[Option<u32>]) -> bool
+fn are_types(dwarf: &Dwarf, types: &[Option<EntryNumber>]) -> bool
     requires { All (λ ty. IfSome ty (λ e. e < length dwarf.now.tree.entries)) types.now }
     ensures { result ≡ list_all (shapes.is_type dwarf.now.tree) types.now }
 {
@@ -72,7 +73,7 @@ fn is_small(number: Option<u64>) -> bool
 }
 
 // Whether an attribute is missing, or is a constant from 0 to 2^63 - 1.
-fn is_natural_small(dwarf: &Dwarf, e: usize, name: u64) -> bool
+fn is_natural_small(dwarf: &Dwarf, e: EntryNumber, name: u64) -> bool
     requires { e < length dwarf.now.tree.entries }
     ensures { result ≡ shapes.is_natural_small dwarf.now.tree e name }
 {
@@ -83,7 +84,7 @@ fn is_natural_small(dwarf: &Dwarf, e: usize, name: u64) -> bool
 }
 
 #[tactic(auto, unfolding(type_reach::specs::Shapes::has_size))]
-fn has_size(dwarf: &Dwarf, e: usize) -> bool
+fn has_size(dwarf: &Dwarf, e: EntryNumber) -> bool
     requires { e < length dwarf.now.tree.entries }
     ensures { result ≡ shapes.has_size dwarf.now.tree e }
 {
@@ -92,7 +93,7 @@ fn has_size(dwarf: &Dwarf, e: usize) -> bool
 
 // Whether a pointer's size is that of an address, or left out.
 #[tactic(auto, unfolding(type_reach::specs::Shapes::has_pointer_size))]
-fn has_pointer_size(dwarf: &Dwarf, e: usize) -> bool
+fn has_pointer_size(dwarf: &Dwarf, e: EntryNumber) -> bool
     requires { e < length dwarf.now.tree.entries }
     ensures { result ≡ shapes.has_pointer_size dwarf.now.tree e }
 {
@@ -106,7 +107,7 @@ fn has_pointer_size(dwarf: &Dwarf, e: usize) -> bool
 }
 
 #[tactic(auto, unfolding(type_reach::specs::Shapes::has_byte))]
-fn has_byte(dwarf: &Dwarf, m: usize) -> bool
+fn has_byte(dwarf: &Dwarf, m: EntryNumber) -> bool
     requires { m < length dwarf.now.tree.entries }
     ensures { result ≡ shapes.has_byte dwarf.now m }
 {
@@ -118,7 +119,7 @@ fn has_byte(dwarf: &Dwarf, m: usize) -> bool
 
 // Whether the attributes that place a member can be read.
 #[tactic(auto, unfolding(type_reach::specs::Shapes::has_place))]
-fn has_place(dwarf: &Dwarf, m: usize) -> bool
+fn has_place(dwarf: &Dwarf, m: EntryNumber) -> bool
     requires { m < length dwarf.now.tree.entries }
     ensures { result ≡ shapes.has_place dwarf.now m }
 {
@@ -136,7 +137,7 @@ fn has_place(dwarf: &Dwarf, m: usize) -> bool
 
 // Whether a bit field has a width.
 #[tactic(auto, unfolding(type_reach::specs::Shapes::has_width))]
-fn has_width(dwarf: &Dwarf, m: usize) -> bool
+fn has_width(dwarf: &Dwarf, m: EntryNumber) -> bool
     requires { m < length dwarf.now.tree.entries }
     ensures { result ≡ shapes.has_width dwarf.now.tree m }
 {
@@ -150,7 +151,7 @@ fn has_width(dwarf: &Dwarf, m: usize) -> bool
 }
 
 #[tactic(auto, unfolding(type_reach::specs::Shapes::is_good_member))]
-fn is_good_member(dwarf: &Dwarf, m: usize) -> bool
+fn is_good_member(dwarf: &Dwarf, m: EntryNumber) -> bool
     requires { m < length dwarf.now.tree.entries }
     ensures { result ≡ shapes.is_good_member dwarf.now m }
 {
@@ -158,15 +159,15 @@ fn is_good_member(dwarf: &Dwarf, m: usize) -> bool
 }
 
 // Whether all of these are members that can be read.
-fn are_good_members(dwarf: &Dwarf, members: &[u32]) -> bool
+fn are_good_members(dwarf: &Dwarf, members: &[EntryNumber]) -> bool
     requires { All (λ m. m < length dwarf.now.tree.entries) members.now }
     ensures { result ≡ list_all (shapes.is_good_member dwarf.now) members.now }
 {
-    members.iter().all(|m| is_good_member(dwarf, *m as usize))
+    members.iter().all(|m| is_good_member(dwarf, *m))
 }
 
 // Whether an entry that is no declaration has a size.
-fn has_size_unless_declared(dwarf: &Dwarf, e: usize) -> bool
+fn has_size_unless_declared(dwarf: &Dwarf, e: EntryNumber) -> bool
     requires { e < length dwarf.now.tree.entries }
     ensures { result ≡ shapes.has_size_unless_declared dwarf.now.tree e }
 {
@@ -177,9 +178,9 @@ fn has_size_unless_declared(dwarf: &Dwarf, e: usize) -> bool
 fn has_shape_of_role(
     alloc: Global,
     dwarf: &Dwarf,
-    e: usize,
+    e: EntryNumber,
     role: Role,
-    parts: &[u32],
+    parts: &[EntryNumber],
 ) -> Result<bool, NoMemory>
     requires inside { e < length dwarf.now.tree.entries }
     requires parts { parts.now ≡ references.parts_of dwarf.now.tree e }
@@ -203,9 +204,9 @@ fn has_shape_of_role(
 pub(crate) fn has_shape(
     alloc: Global,
     dwarf: &Dwarf,
-    e: usize,
-    parts: &[u32],
-    types: &[Option<u32>],
+    e: EntryNumber,
+    parts: &[EntryNumber],
+    types: &[Option<EntryNumber>],
 ) -> Result<bool, NoMemory>
     requires inside { e < length dwarf.now.tree.entries }
     requires parts { parts.now ≡ references.parts_of dwarf.now.tree e }

@@ -27,13 +27,14 @@ use abi_base::NoMemory;
 use abi_base::dwarf::{DW_AT_GNU_vector, DW_TAG_structure_type};
 use abi_types::{Call, Group, Index, Kind, Parts, View};
 use dwarf_entries::Dwarf;
+use dwarf_tree::EntryNumber;
 use std::alloc::Global;
 use type_reach::laws::laws_of_types;
 use type_reach::{Role, Summary, role_of, summary_by_number, variadic_at};
 
 // Whether an array is a vector of the machine.
 #[tactic(auto, unfolding(type_reach::specs::Views::is_vector))]
-fn is_vector(dwarf: &Dwarf, c: usize) -> bool
+fn is_vector(dwarf: &Dwarf, c: EntryNumber) -> bool
     requires { c < length dwarf.now.tree.entries }
     ensures { result ≡ views.is_vector dwarf.now.tree c }
 {
@@ -42,7 +43,7 @@ fn is_vector(dwarf: &Dwarf, c: usize) -> bool
 
 // The kind of a core.
 #[tactic(auto, unfolding(type_reach::specs::Views::kind_of))]
-fn kind_of(dwarf: &Dwarf, c: usize, role: Role) -> Kind
+fn kind_of(dwarf: &Dwarf, c: EntryNumber, role: Role) -> Kind
     requires inside { c < length dwarf.now.tree.entries }
     requires role { role ≡ references.role_of dwarf.now.tree c }
     ensures { result ≡ views.kind_of dwarf.now.tree c }
@@ -78,7 +79,7 @@ fn has_tag(kind: Kind) -> bool
 }
 
 // What the bits of a core of a size mean.
-fn group(dwarf: &Dwarf, c: usize, role: Role, size: u64) -> Group
+fn group(dwarf: &Dwarf, c: EntryNumber, role: Role, size: u64) -> Group
     requires inside { c < length dwarf.now.tree.entries }
     requires size { size ≡ (facts_of dwarf.now (Some c)).size }
     ensures { result ≡ group_for role dwarf.now c }
@@ -90,7 +91,7 @@ fn group(dwarf: &Dwarf, c: usize, role: Role, size: u64) -> Group
 }
 
 // The tag of a core of a kind; empty where it has none.
-fn tag<'a>(dwarf: &Dwarf<'a>, c: usize, kind: Kind) -> &'a [u8]
+fn tag<'a>(dwarf: &Dwarf<'a>, c: EntryNumber, kind: Kind) -> &'a [u8]
     requires { c < length dwarf.now.tree.entries }
     ensures { result.now ≡ (if forms.has_tag kind then text_or_empty (name_of dwarf.now c) else []) }
 {
@@ -123,7 +124,7 @@ fn view_of_void<'a, Ix: Index>(alloc: Global, align: u64) -> View<'a, Ix>
 fn view_of_peeled<'a, Ix: Index>(
     alloc: Global,
     types: &JudgedTypes<'_, 'a>,
-    c: usize,
+    c: EntryNumber,
     align: u64,
     other: bool,
 ) -> Result<View<'a, Ix>, NoMemory>
@@ -161,7 +162,7 @@ fn view_of_peeled<'a, Ix: Index>(
 }
 
 // Whether the core of a type is another entry.
-fn is_other(core: Option<usize>, ty: Option<usize>) -> bool
+fn is_other(core: Option<EntryNumber>, ty: Option<EntryNumber>) -> bool
     ensures { result ≡ sharing.is_other core ty }
 {
     match (core, ty) {
@@ -175,7 +176,7 @@ fn is_other(core: Option<usize>, ty: Option<usize>) -> bool
 pub(crate) fn view<'a, Ix: Index>(
     alloc: Global,
     types: &JudgedTypes<'_, 'a>,
-    ty: Option<usize>,
+    ty: Option<EntryNumber>,
     own: &Summary,
 ) -> Result<View<'a, Ix>, NoMemory>
     requires closed { IsClosed types.now.dwarf.now.tree types.now.found.now }

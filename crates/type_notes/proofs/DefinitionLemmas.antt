@@ -1,5 +1,5 @@
 -- The definitions of each name, as loops over entries find them, and texts that grow entry by entry.
-use Rattle.std.proofs.Common.{◌≡◌, ◌↔◌, ◌<◌, ◌≤◌, ◌+◌, ◌-◌, ◌∙◌, ℕ, zero, suc, Bool, true, false, cond, List, [], ◌∷◌, ◌++◌, length, take, map, get_or, Option, Some, None, ap, sym, subst, arith, refl, inl, inr}
+use Rattle.std.proofs.Common.{◌≡◌, ◌↔◌, ◌<◌, ◌≤◌, ◌+◌, ◌-◌, ◌∙◌, ℕ, zero, suc, Bool, true, false, cond, List, [], ◌∷◌, ◌++◌, length, take, map, get_or, Option, Some, None, ap, sym, arith, refl, inl, inr}
 use Rattle.std.specs.Prelude.{◌||◌, filter, position, is_some, codes, if◌then◌else◌, Contains}
 use Rattle.std.specs.BTreeMap.{get_by}
 use Rattle.std.specs.Borrow.{Bor}
@@ -135,6 +135,10 @@ none_of (Some found) none = absurd cc
 
 pub changes_passed : (f : ℕ → Option Difference) (k n : ℕ) (o : Option Difference) → k < n → o ≡ f k → is_some o ≡ false → first_of (map f (places k n)) ≡ first_of (map f (places (k + 1) n))
 changes_passed f k n o lt is none = changes_more f k n lt (sym is ∙ none_of o none)
+
+pub changes_found : (f : ℕ → Option Difference) (k n : ℕ) (o : Option Difference) → k < n → o ≡ f k → is_some o ≡ true → o ≡ first_of (map f (places k n))
+changes_found f k n None lt is found = absurd cc
+changes_found f k n (Some difference) lt is found = let here : f k ≡ Some difference = sym is in rw (places_more k n lt, here) refl
 
 -- ---- the text of a type
 

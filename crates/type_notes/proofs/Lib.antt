@@ -2,4 +2,5 @@ pub mod AnyLemmas
 pub mod ChainLemmas
 pub mod DefinitionLemmas
 pub mod LawLemmas
+mod PackingLemmas
 pub mod WalkLemmas

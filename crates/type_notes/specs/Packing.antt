@@ -1,7 +1,7 @@
 -- Packed structures, as the positions of their members show: at least one member that is not a bit field does not stand at a
 -- multiple of its alignment (psABI, section 3.1.2 "Data Representation", "Aggregates and Unions").
-use Rattle.std.specs.Prelude.{ℕ, ◌*◌, ◌%◌, ◌==◌, Bool, false, not, ◌&&◌, if◌then◌else◌, List, Option, codes}
-use Rattle.std.specs.List.{list_any}
+use Rattle.std.specs.Prelude.{ℕ, ◌*◌, ◌%◌, ◌==◌, Bool, false, not, ◌&&◌, if◌then◌else◌, List, length, map, Option, codes}
+use Rattle.std.specs.List.{list_any, range_with_len}
 use Rattle.abi_types.specs.Graphs.{view_at}
 use Rattle.abi_types.specs.Types.{PlainPart, Member, PlainNode}
 use Rattle.psabi.specs.Alignment.{align_of}
@@ -20,6 +20,10 @@ stands_off nodes other = false
 
 abbrev pub is_packed : List PlainNode → ℕ → Bool
 is_packed nodes i = list_any (stands_off nodes) (view_at nodes i).parts
+
+-- whether each node is packed
+abbrev pub packed_nodes : List PlainNode → List Bool
+packed_nodes nodes = map (is_packed nodes) (range_with_len 0 (length nodes))
 
 abbrev pub packing_text : List PlainNode → ℕ → List ℕ
 packing_text nodes i = if is_packed nodes i then codes "packed" else codes "none"

@@ -15,6 +15,7 @@ use crate::type_pair::TypePair;
 use crate::unions::union_change;
 use abi_base::{List, NoMemory};
 use dwarf_entries::Dwarf;
+use dwarf_forms::DebugInfoOffset;
 use std::alloc::Global;
 
 /// The debug entries of two libraries.
@@ -36,8 +37,14 @@ fn push_entry_changes(
     requires { AreNodes types.now }
     ensures { OnOk result (list.new ≡ list.old ++ entry_changes dwarfs.now.old.now dwarfs.now.new.now (chains.core_at dwarfs.now.old.now.tree (old_node types.now).entry) (chains.core_at dwarfs.now.new.now.tree (new_node types.now).entry)) }
 {
-    let old = core_at(dwarfs.old, types.old_graph.entry_of(types.old));
-    let new = core_at(dwarfs.new, types.new_graph.entry_of(types.new));
+    let old = core_at(
+        dwarfs.old,
+        DebugInfoOffset::new(types.old_graph.entry_of(types.old)),
+    );
+    let new = core_at(
+        dwarfs.new,
+        DebugInfoOffset::new(types.new_graph.entry_of(types.new)),
+    );
     match (old, new) {
         (Some(old), Some(new)) => {
             let pair = EntryPair {
@@ -62,8 +69,12 @@ fn push_object_entry_changes(
     requires { AreNodes types.now }
     ensures { OnOk result (list.new ≡ list.old ++ object_entry_changes dwarfs.now.old.now dwarfs.now.new.now (entry_of dwarfs.now.old.now.tree (old_node types.now).entry) (entry_of dwarfs.now.new.now.tree (new_node types.now).entry)) }
 {
-    let old = dwarfs.old.find(types.old_graph.entry_of(types.old));
-    let new = dwarfs.new.find(types.new_graph.entry_of(types.new));
+    let old = dwarfs
+        .old
+        .find(DebugInfoOffset::new(types.old_graph.entry_of(types.old)));
+    let new = dwarfs
+        .new
+        .find(DebugInfoOffset::new(types.new_graph.entry_of(types.new)));
     match (old, new) {
         (Some(old), Some(new)) => {
             let pair = EntryPair {

@@ -5,13 +5,15 @@ ghost use Rattle.type_reach.specs.References as references;
 ghost use Rattle.type_notes.specs.Chains as spec;
 
 use dwarf_entries::Dwarf;
+use dwarf_forms::DebugInfoOffset;
+use dwarf_tree::EntryNumber;
 use type_reach::{Role, role_of, type_of};
 
 // The most entries in the chain from a type to the type for which it stands: one by-value step more than a library may have.
 pub(crate) const ENTRIES: usize = 513;
 
 // The type behind typedefs, qualifiers, variables and signatures.
-fn behind(dwarf: &Dwarf, from: Option<usize>) -> Option<usize>
+fn behind(dwarf: &Dwarf, from: Option<EntryNumber>) -> Option<EntryNumber>
     requires { IfSome from (λ e. e < length dwarf.now.tree.entries) }
     ensures found { result ≡ spec.behind dwarf.now.tree (depth_limit + 1) from }
     ensures inside { IfSome result (λ e. e < length dwarf.now.tree.entries) }
@@ -30,7 +32,7 @@ fn behind(dwarf: &Dwarf, from: Option<usize>) -> Option<usize>
 }
 
 // The entry for which the type at an offset stands.
-pub(crate) fn core_at(dwarf: &Dwarf, offset: u64) -> Option<usize>
+pub(crate) fn core_at(dwarf: &Dwarf, offset: DebugInfoOffset) -> Option<EntryNumber>
     ensures found { result ≡ spec.core_at dwarf.now.tree offset }
     ensures inside { IfSome result (λ e. e < length dwarf.now.tree.entries) }
 {
@@ -38,7 +40,7 @@ pub(crate) fn core_at(dwarf: &Dwarf, offset: u64) -> Option<usize>
 }
 
 // The entry for which the type of an entry stands.
-pub(crate) fn core_of_type(dwarf: &Dwarf, e: usize) -> Option<usize>
+pub(crate) fn core_of_type(dwarf: &Dwarf, e: EntryNumber) -> Option<EntryNumber>
     requires { e < length dwarf.now.tree.entries }
     ensures found { result ≡ spec.behind dwarf.now.tree (depth_limit + 1) (references.type_of dwarf.now.tree e) }
     ensures inside { IfSome result (λ e. e < length dwarf.now.tree.entries) }
@@ -54,7 +56,7 @@ fn leads_further(role: Role) -> bool
 }
 
 // Whether the chain from a type has an entry with a tag, also behind the elements of an array.
-fn is_passed(dwarf: &Dwarf, from: Option<usize>, tag: u64) -> bool
+fn is_passed(dwarf: &Dwarf, from: Option<EntryNumber>, tag: u64) -> bool
     requires { IfSome from (λ e. e < length dwarf.now.tree.entries) }
     ensures { result ≡ spec.is_passed dwarf.now.tree tag (depth_limit + 1) from }
 {
@@ -78,7 +80,7 @@ fn is_passed(dwarf: &Dwarf, from: Option<usize>, tag: u64) -> bool
 }
 
 // Whether the type of an entry has the qualifier with a tag; an array has it if its elements do.
-pub(crate) fn has_qualifier(dwarf: &Dwarf, e: usize, tag: u64) -> bool
+pub(crate) fn has_qualifier(dwarf: &Dwarf, e: EntryNumber, tag: u64) -> bool
     requires { e < length dwarf.now.tree.entries }
     ensures { result ≡ spec.has_qualifier dwarf.now.tree tag e }
 {

@@ -20,6 +20,7 @@ use abi_base::dwarf::{
 use abi_base::{List, NoMemory};
 use abi_types::push_shown;
 use dwarf_entries::Dwarf;
+use dwarf_tree::EntryNumber;
 use std::alloc::{AllocError, Global};
 use std::fmt::Write;
 use type_reach::{Role, number_at, role_of, type_of, wrapped_of};
@@ -43,7 +44,7 @@ fn encoding_word(encoding: u64) -> &'static str
 }
 
 // Appends the size of a type in bytes.
-fn push_size(text: &mut String, dwarf: &Dwarf, e: usize) -> Result<(), AllocError>
+fn push_size(text: &mut String, dwarf: &Dwarf, e: EntryNumber) -> Result<(), AllocError>
     requires { e < length dwarf.now.tree.entries }
     ensures { OnOk result (string_bytes text.new ≡ string_bytes text.old ++ spec.size_of dwarf.now.tree e) }
 {
@@ -52,7 +53,7 @@ fn push_size(text: &mut String, dwarf: &Dwarf, e: usize) -> Result<(), AllocErro
 }
 
 // Appends a base type by its size and the word for its encoding.
-fn push_base(text: &mut String, dwarf: &Dwarf, e: usize) -> Result<(), AllocError>
+fn push_base(text: &mut String, dwarf: &Dwarf, e: EntryNumber) -> Result<(), AllocError>
     requires { e < length dwarf.now.tree.entries }
     ensures { OnOk result (string_bytes text.new ≡ string_bytes text.old ++ spec.base_text dwarf.now.tree e) }
 {
@@ -79,7 +80,7 @@ fn push_name_or_size(
     alloc: Global,
     text: &mut String,
     dwarf: &Dwarf,
-    e: usize,
+    e: EntryNumber,
 ) -> Result<(), AllocError>
     requires { e < length dwarf.now.tree.entries }
     ensures { OnOk result (string_bytes text.new ≡ string_bytes text.old ++ spec.name_or_size dwarf.now.tree e (names.name_of dwarf.now e)) }
@@ -94,7 +95,12 @@ fn push_name_or_size(
 }
 
 // Appends a structure, a union or an enumeration by its name.
-fn push_tag(alloc: Global, text: &mut String, dwarf: &Dwarf, e: usize) -> Result<(), AllocError>
+fn push_tag(
+    alloc: Global,
+    text: &mut String,
+    dwarf: &Dwarf,
+    e: EntryNumber,
+) -> Result<(), AllocError>
     requires { e < length dwarf.now.tree.entries }
     ensures { OnOk result (string_bytes text.new ≡ string_bytes text.old ++ spec.tag_text dwarf.now e) }
 {
@@ -103,7 +109,12 @@ fn push_tag(alloc: Global, text: &mut String, dwarf: &Dwarf, e: usize) -> Result
 }
 
 // Appends `array` and the dimensions of an array.
-fn push_array(alloc: Global, text: &mut String, dwarf: &Dwarf, e: usize) -> Result<(), NoMemory>
+fn push_array(
+    alloc: Global,
+    text: &mut String,
+    dwarf: &Dwarf,
+    e: EntryNumber,
+) -> Result<(), NoMemory>
     requires { e < length dwarf.now.tree.entries }
     ensures { OnOk result (string_bytes text.new ≡ string_bytes text.old ++ spec.array_text dwarf.now.tree e) }
 {
@@ -116,7 +127,12 @@ fn push_array(alloc: Global, text: &mut String, dwarf: &Dwarf, e: usize) -> Resu
 
 // Appends the part of a type's text that one entry contributes.
 #[tactic(auto, unfolding(crate::specs::DefinitionTexts::type_word))]
-fn push_word(alloc: Global, text: &mut String, dwarf: &Dwarf, e: usize) -> Result<(), NoMemory>
+fn push_word(
+    alloc: Global,
+    text: &mut String,
+    dwarf: &Dwarf,
+    e: EntryNumber,
+) -> Result<(), NoMemory>
     requires { e < length dwarf.now.tree.entries }
     ensures { OnOk result (string_bytes text.new ≡ string_bytes text.old ++ spec.type_word dwarf.now e) }
 {
@@ -143,7 +159,7 @@ fn push_type(
     alloc: Global,
     text: &mut String,
     dwarf: &Dwarf,
-    from: Option<usize>,
+    from: Option<EntryNumber>,
 ) -> Result<(), NoMemory>
     requires { IfSome from (λ e. e < length dwarf.now.tree.entries) }
     ensures { OnOk result (string_bytes text.new ≡ string_bytes text.old ++ spec.type_text dwarf.now (depth_limit + 1) from) }
@@ -169,7 +185,7 @@ fn push_type(
 
 // A member by its name, its position and its type.
 #[tactic(auto, unfolding(crate::specs::DefinitionTexts::member_text))]
-fn member_text(alloc: Global, dwarf: &Dwarf, m: usize) -> Result<String, NoMemory>
+fn member_text(alloc: Global, dwarf: &Dwarf, m: EntryNumber) -> Result<String, NoMemory>
     requires { m < length dwarf.now.tree.entries }
     ensures { IfOk result (λ text. string_bytes text ≡ spec.member_text dwarf.now m) }
 {
@@ -194,7 +210,7 @@ fn push_number(text: &mut String, number: Option<u64>) -> Result<(), AllocError>
 
 // An enumerator by its name and its value.
 #[tactic(auto, unfolding(crate::specs::DefinitionTexts::enumerator_text))]
-fn enumerator_text(alloc: Global, dwarf: &Dwarf, c: usize) -> Result<String, NoMemory>
+fn enumerator_text(alloc: Global, dwarf: &Dwarf, c: EntryNumber) -> Result<String, NoMemory>
     requires { c < length dwarf.now.tree.entries }
     ensures { IfOk result (λ text. string_bytes text ≡ spec.enumerator_text dwarf.now c) }
 {
@@ -207,7 +223,7 @@ fn enumerator_text(alloc: Global, dwarf: &Dwarf, c: usize) -> Result<String, NoM
 }
 
 /// The text of a member or an enumerator.
-pub(crate) fn part_text(alloc: Global, dwarf: &Dwarf, m: usize) -> Result<Vec<u8>, NoMemory>
+pub(crate) fn part_text(alloc: Global, dwarf: &Dwarf, m: EntryNumber) -> Result<Vec<u8>, NoMemory>
     requires { m < length dwarf.now.tree.entries }
     ensures { IfOk result (λ text. text.items ≡ spec.part_text dwarf.now m) }
 {
@@ -221,7 +237,11 @@ pub(crate) fn part_text(alloc: Global, dwarf: &Dwarf, m: usize) -> Result<Vec<u8
 
 /// The members of a structure or a union, or the enumerators of an enumeration, in order.
 #[tactic(auto, unfolding(crate::specs::DefinitionTexts::parts_of, type_reach::specs::References::tagged_children))]
-pub(crate) fn parts_of(alloc: Global, dwarf: &Dwarf, e: usize) -> Result<Vec<usize>, NoMemory>
+pub(crate) fn parts_of(
+    alloc: Global,
+    dwarf: &Dwarf,
+    e: EntryNumber,
+) -> Result<Vec<EntryNumber>, NoMemory>
     requires { e < length dwarf.now.tree.entries }
     ensures parts { IfOk result (λ list. list.items ≡ spec.parts_of dwarf.now.tree e) }
     ensures inside { IfOk result (λ list. All (λ m. m < length dwarf.now.tree.entries) list.items) }
@@ -235,7 +255,7 @@ pub(crate) fn parts_of(alloc: Global, dwarf: &Dwarf, e: usize) -> Result<Vec<usi
 }
 
 /// The text of a definition's size.
-pub(crate) fn size_text(alloc: Global, dwarf: &Dwarf, e: usize) -> Result<Vec<u8>, NoMemory>
+pub(crate) fn size_text(alloc: Global, dwarf: &Dwarf, e: EntryNumber) -> Result<Vec<u8>, NoMemory>
     requires { e < length dwarf.now.tree.entries }
     ensures { IfOk result (λ text. text.items ≡ spec.size_text dwarf.now.tree e) }
 {
@@ -250,7 +270,7 @@ fn push_parts(
     alloc: Global,
     text: &mut Vec<u8>,
     dwarf: &Dwarf,
-    parts: &[usize],
+    parts: &[EntryNumber],
 ) -> Result<(), NoMemory>
     requires { All (λ m. m < length dwarf.now.tree.entries) parts.now }
     ensures { OnOk result (text.new.items ≡ text.old.items ++ flat_map (spec.part_behind dwarf.now) parts.now) }
@@ -263,7 +283,12 @@ fn push_parts(
 }
 
 // Appends a member or an enumerator, with the separator in front.
-fn push_part(alloc: Global, text: &mut Vec<u8>, dwarf: &Dwarf, m: usize) -> Result<(), NoMemory>
+fn push_part(
+    alloc: Global,
+    text: &mut Vec<u8>,
+    dwarf: &Dwarf,
+    m: EntryNumber,
+) -> Result<(), NoMemory>
     requires { m < length dwarf.now.tree.entries }
     ensures { OnOk result (text.new.items ≡ text.old.items ++ spec.part_behind dwarf.now m) }
 {
@@ -275,7 +300,11 @@ fn push_part(alloc: Global, text: &mut Vec<u8>, dwarf: &Dwarf, m: usize) -> Resu
 
 /// The text of a whole definition: its size, and its members or enumerators in order.
 #[tactic(auto, unfolding(crate::specs::DefinitionTexts::definition_text))]
-pub(crate) fn definition_text(alloc: Global, dwarf: &Dwarf, e: usize) -> Result<List<u8>, NoMemory>
+pub(crate) fn definition_text(
+    alloc: Global,
+    dwarf: &Dwarf,
+    e: EntryNumber,
+) -> Result<List<u8>, NoMemory>
     requires { e < length dwarf.now.tree.entries }
     ensures { IfOk result (λ text. text ≡ spec.definition_text dwarf.now e) }
 {

@@ -11,6 +11,7 @@ use abi_base::dwarf::{
 };
 use abi_base::{List, NoMemory};
 use dwarf_entries::Dwarf;
+use dwarf_tree::EntryNumber;
 use dwarf_tree::laws::children_stand_one_deeper;
 use std::alloc::Global;
 use std::collections::BTreeMap;
@@ -19,11 +20,11 @@ use std::collections::BTreeMap;
 #[derive(Drop)]
 pub struct Definitions<'a> {
     /// The definitions of structures.
-    pub structures: BTreeMap<&'a [u8], List<usize>>,
+    pub structures: BTreeMap<&'a [u8], List<EntryNumber>>,
     /// The definitions of unions.
-    pub unions: BTreeMap<&'a [u8], List<usize>>,
+    pub unions: BTreeMap<&'a [u8], List<EntryNumber>>,
     /// The definitions of enumerations.
-    pub enumerations: BTreeMap<&'a [u8], List<usize>>,
+    pub enumerations: BTreeMap<&'a [u8], List<EntryNumber>>,
 }
 
 /// The definitions of two libraries.
@@ -38,9 +39,9 @@ pub struct DefinitionPair<'x, 'o, 'n> {
 // Removes the positions under a name from the map, and returns them.
 fn taken<'a>(
     alloc: Global,
-    places: &mut BTreeMap<&'a [u8], List<usize>>,
+    places: &mut BTreeMap<&'a [u8], List<EntryNumber>>,
     name: &'a [u8],
-) -> List<usize>
+) -> List<EntryNumber>
     ensures list { result ≡ places_under places.old name.now }
     ensures others { (q : List ℕ) → places_under places.new q ≡ (if bytes_eq name.now q then [] else places_under places.old q) }
 {
@@ -53,9 +54,9 @@ fn taken<'a>(
 // Appends a position to those under a name.
 fn keep<'a>(
     alloc: Global,
-    places: &mut BTreeMap<&'a [u8], List<usize>>,
+    places: &mut BTreeMap<&'a [u8], List<EntryNumber>>,
     name: &'a [u8],
-    place: usize,
+    place: EntryNumber,
 ) -> Result<(), NoMemory>
     ensures { OnOk result ((q : List ℕ) → places_under places.new q ≡ places_under places.old q ++ (if bytes_eq name.now q then place ∷ [] else [])) }
 {
@@ -69,9 +70,9 @@ fn keep<'a>(
 #[tactic(auto, unfolding(crate::specs::DefinedElsewhere::defines))]
 fn keep_definition<'a>(
     alloc: Global,
-    places: &mut BTreeMap<&'a [u8], List<usize>>,
+    places: &mut BTreeMap<&'a [u8], List<EntryNumber>>,
     dwarf: &Dwarf<'a>,
-    e: usize,
+    e: EntryNumber,
 ) -> Result<(), NoMemory>
     requires { e < length dwarf.now.tree.entries }
     ensures { OnOk result ((q : List ℕ) → places_under places.new q ≡ places_under places.old q ++ (if spec.defines dwarf.now q e then e ∷ [] else [])) }
@@ -88,9 +89,9 @@ fn keep_definition<'a>(
 // Adds those entries that are definitions, under their names.
 fn keep_definitions<'a>(
     alloc: Global,
-    places: &mut BTreeMap<&'a [u8], List<usize>>,
+    places: &mut BTreeMap<&'a [u8], List<EntryNumber>>,
     dwarf: &Dwarf<'a>,
-    entries: &[usize],
+    entries: &[EntryNumber],
 ) -> Result<(), NoMemory>
     requires { All (λ e. e < length dwarf.now.tree.entries) entries.now }
     ensures { OnOk result ((q : List ℕ) → places_under places.new q ≡ places_under places.old q ++ filter (spec.defines dwarf.now q) entries.now) }
@@ -114,7 +115,12 @@ fn is_unit_tag(tag: u64) -> bool
 
 // The entries with a tag at the top of a unit, given the root of the unit.
 #[tactic(auto, unfolding(crate::specs::DefinedElsewhere::at_top_of, type_reach::specs::References::tagged_children))]
-fn at_top_of(alloc: Global, dwarf: &Dwarf, root: usize, tag: u64) -> Result<Vec<usize>, NoMemory>
+fn at_top_of(
+    alloc: Global,
+    dwarf: &Dwarf,
+    root: EntryNumber,
+    tag: u64,
+) -> Result<Vec<EntryNumber>, NoMemory>
     requires { root < length dwarf.now.tree.entries }
     ensures entries { IfOk result (λ list. list.items ≡ spec.at_top_of dwarf.now.tree tag root) }
     ensures inside { IfOk result (λ list. All (λ e. e < length dwarf.now.tree.entries) list.items) }
@@ -131,12 +137,14 @@ fn definitions_with<'a>(
     alloc: Global,
     dwarf: &Dwarf<'a>,
     tag: u64,
-) -> Result<BTreeMap<&'a [u8], List<usize>>, NoMemory>
+) -> Result<BTreeMap<&'a [u8], List<EntryNumber>>, NoMemory>
     ensures { IfOk result (λ places. (q : List ℕ) → places_under places q ≡ spec.definitions_of dwarf.now tag q) }
 {
     let mut places = BTreeMap::new(alloc);
+    dwarf.known();
     for root in 0..dwarf.len() {
-        let tops = at_top_of(alloc, dwarf, root, tag)?;
+        let entry = EntryNumber::new(root as u32);
+        let tops = at_top_of(alloc, dwarf, entry, tag)?;
         keep_definitions(alloc, &mut places, dwarf, tops.as_slice())?;
     }
     Ok(places)
@@ -160,7 +168,7 @@ pub(crate) fn definitions_of<'a>(
 }
 
 // The positions under a name.
-fn listed<'x>(places: &'x BTreeMap<&[u8], List<usize>>, name: &'x [u8]) -> &'x [usize]
+fn listed<'x>(places: &'x BTreeMap<&[u8], List<EntryNumber>>, name: &'x [u8]) -> &'x [EntryNumber]
     ensures { result.now ≡ places_under places.now name.now }
 {
     match places.get(name) {
@@ -175,7 +183,7 @@ fn definitions_named<'x>(
     definitions: &'x Definitions,
     tag: u64,
     name: Option<&'x [u8]>,
-) -> &'x [usize]
+) -> &'x [EntryNumber]
     requires { AreDefinitions dwarf.now definitions.now }
     ensures { result.now ≡ spec.definitions_named dwarf.now tag (option_copied name.entry) }
 {
@@ -193,7 +201,11 @@ fn definitions_named<'x>(
 
 // The definitions of an entry's tag and name.
 #[tactic(auto, unfolding(crate::specs::DefinedElsewhere::definitions_like))]
-fn definitions_like<'x>(dwarf: &'x Dwarf, definitions: &'x Definitions, e: usize) -> &'x [usize]
+fn definitions_like<'x>(
+    dwarf: &'x Dwarf,
+    definitions: &'x Definitions,
+    e: EntryNumber,
+) -> &'x [EntryNumber]
     requires inside { e < length dwarf.now.tree.entries }
     requires definitions { AreDefinitions dwarf.now definitions.now }
     ensures list { result.now ≡ spec.definitions_like dwarf.now e }
@@ -204,7 +216,7 @@ fn definitions_like<'x>(dwarf: &'x Dwarf, definitions: &'x Definitions, e: usize
 }
 
 // The first position of a list.
-fn first_in(places: &[usize]) -> Option<usize>
+fn first_in(places: &[EntryNumber]) -> Option<EntryNumber>
     ensures { result ≡ spec.first_in places.now }
 {
     places.first().copied()
@@ -212,7 +224,11 @@ fn first_in(places: &[usize]) -> Option<usize>
 
 /// The definition of an entry's type: the entry itself, or for a declaration the first definition of its tag and name.
 #[tactic(auto, unfolding(crate::specs::DefinedElsewhere::defined_by))]
-pub(crate) fn defined_by(dwarf: &Dwarf, definitions: &Definitions, e: usize) -> Option<usize>
+pub(crate) fn defined_by(
+    dwarf: &Dwarf,
+    definitions: &Definitions,
+    e: EntryNumber,
+) -> Option<EntryNumber>
     requires inside { e < length dwarf.now.tree.entries }
     requires definitions { AreDefinitions dwarf.now definitions.now }
     ensures found { result ≡ spec.defined_by dwarf.now e }
@@ -230,8 +246,8 @@ pub(crate) fn kin_of(
     alloc: Global,
     dwarf: &Dwarf,
     definitions: &Definitions,
-    e: usize,
-) -> Result<Vec<usize>, NoMemory>
+    e: EntryNumber,
+) -> Result<Vec<EntryNumber>, NoMemory>
     requires inside { e < length dwarf.now.tree.entries }
     requires definitions { AreDefinitions dwarf.now definitions.now }
     ensures list { IfOk result (λ list. list.items ≡ spec.kin_of dwarf.now e) }

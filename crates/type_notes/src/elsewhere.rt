@@ -12,13 +12,14 @@ use crate::lacking::first_lacking;
 use crate::note::NoteKind;
 use abi_base::{List, NoMemory};
 use dwarf_entries::Dwarf;
+use dwarf_tree::EntryNumber;
 use std::alloc::Global;
 
 // The text of the member or enumerator at a position of a list, or that there is none.
 fn part_or_none(
     alloc: Global,
     dwarf: &Dwarf,
-    parts: &[usize],
+    parts: &[EntryNumber],
     place: usize,
 ) -> Result<Vec<u8>, NoMemory>
     requires { All (λ m. m < length dwarf.now.tree.entries) parts.now }
@@ -35,8 +36,8 @@ fn part_or_none(
 fn part_change(
     alloc: Global,
     pair: &EntryPair,
-    old: &[usize],
-    new: &[usize],
+    old: &[EntryNumber],
+    new: &[EntryNumber],
     place: usize,
 ) -> Result<Option<Difference>, NoMemory>
     requires old { All (λ m. m < length pair.now.old_dwarf.now.tree.entries) old.now }
@@ -52,8 +53,8 @@ fn part_change(
 fn first_part_change(
     alloc: Global,
     pair: &EntryPair,
-    old: &[usize],
-    new: &[usize],
+    old: &[EntryNumber],
+    new: &[EntryNumber],
 ) -> Result<Option<Difference>, NoMemory>
     requires old { All (λ m. m < length pair.now.old_dwarf.now.tree.entries) old.now }
     requires new { All (λ m. m < length pair.now.new_dwarf.now.tree.entries) new.now }
@@ -89,7 +90,11 @@ pub(crate) fn definition_change(
 }
 
 // The texts of definitions.
-fn texts_of(alloc: Global, dwarf: &Dwarf, entries: &[usize]) -> Result<List<List<u8>>, NoMemory>
+fn texts_of(
+    alloc: Global,
+    dwarf: &Dwarf,
+    entries: &[EntryNumber],
+) -> Result<List<List<u8>>, NoMemory>
     requires { All (λ e. e < length dwarf.now.tree.entries) entries.now }
     ensures { IfOk result (λ texts. texts ≡ spec.texts_of dwarf.now entries.now) }
 {
@@ -103,7 +108,7 @@ fn texts_of(alloc: Global, dwarf: &Dwarf, entries: &[usize]) -> Result<List<List
 }
 
 // The entry at a position of a list.
-fn entry_at(dwarf: &Dwarf, entries: &[usize], place: usize) -> Option<usize>
+fn entry_at(dwarf: &Dwarf, entries: &[EntryNumber], place: usize) -> Option<EntryNumber>
     requires { All (λ e. e < length dwarf.now.tree.entries) entries.now }
     ensures found { result ≡ slice_get entries.now place }
     ensures inside { IfSome result (λ e. e < length dwarf.now.tree.entries) }
@@ -123,9 +128,9 @@ pub(crate) struct Kin<'x, 'o, 'n> {
     /// The debug entries of the new library.
     pub new_dwarf: &'x Dwarf<'n>,
     /// The positions of the old definitions.
-    pub old: &'x [usize],
+    pub old: &'x [EntryNumber],
     /// The positions of the new definitions.
-    pub new: &'x [usize],
+    pub new: &'x [EntryNumber],
 }
 
 // The difference between the definitions at two positions.
@@ -175,7 +180,7 @@ pub(crate) fn kin_change(alloc: Global, kin: &Kin) -> Result<Option<Difference>,
 pub(crate) fn definitions_by(
     pair: &EntryPair,
     definitions: &DefinitionPair,
-) -> Option<(usize, usize)>
+) -> Option<(EntryNumber, EntryNumber)>
     requires there { AreThere (plain pair.now) }
     requires definitions { AreOfBoth pair.now.old_dwarf.now pair.now.new_dwarf.now definitions.now }
     ensures found { result ≡ spec.definitions_by pair.now.old_dwarf.now pair.now.new_dwarf.now pair.now.old pair.now.new }

@@ -8,6 +8,7 @@ use crate::difference::{Difference, differing, push_found};
 use crate::said::said;
 use abi_base::{List, NoMemory};
 use dwarf_entries::Dwarf;
+use dwarf_tree::EntryNumber;
 use std::alloc::Global;
 use type_reach::role_of;
 
@@ -19,9 +20,9 @@ pub struct EntryPair<'x, 'o, 'n> {
     /// The debug entries of the new library.
     pub new_dwarf: &'x Dwarf<'n>,
     /// The position of the old entry.
-    pub old: usize,
+    pub old: EntryNumber,
     /// The position of the new entry.
-    pub new: usize,
+    pub new: EntryNumber,
 }
 
 // The difference between two entries in an aspect.

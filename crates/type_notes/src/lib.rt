@@ -37,5 +37,5 @@ pub use entries::{EntryPair, push_changes};
 pub use note::{Note, NoteKind};
 pub use noted_pair::NotedPair;
 pub use padding::Bits;
-pub use type_pair::TypePair;
+pub use type_pair::{Packed, TypePair};
 pub use walk::type_notes;

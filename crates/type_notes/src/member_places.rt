@@ -9,13 +9,14 @@ use abi_base::dwarf::{
     DW_AT_data_member_location,
 };
 use dwarf_entries::Dwarf;
+use dwarf_tree::EntryNumber;
 use std::alloc::AllocError;
 use std::fmt::Write;
 use type_reach::{is_there, number_at, place_of, width_of};
 
 // The byte at which a member begins.
 #[tactic(auto, unfolding(type_reach::specs::Placement::byte_of))]
-fn byte_of(dwarf: &Dwarf, m: usize) -> u64
+fn byte_of(dwarf: &Dwarf, m: EntryNumber) -> u64
     requires { m < length dwarf.now.tree.entries }
     ensures { result ≡ placement.byte_of dwarf.now m }
 {
@@ -23,7 +24,7 @@ fn byte_of(dwarf: &Dwarf, m: usize) -> u64
 }
 
 // The size of a member's type; 0 for void.
-fn type_size(dwarf: &Dwarf, m: usize) -> u64
+fn type_size(dwarf: &Dwarf, m: EntryNumber) -> u64
     requires { m < length dwarf.now.tree.entries }
     ensures { result ≡ spec.type_size dwarf.now.tree m }
 {
@@ -35,7 +36,7 @@ fn type_size(dwarf: &Dwarf, m: usize) -> u64
 
 // The size of a bit field's storage unit.
 #[tactic(auto, unfolding(type_reach::specs::Placement::storage_of))]
-fn storage_of(dwarf: &Dwarf, m: usize) -> u64
+fn storage_of(dwarf: &Dwarf, m: EntryNumber) -> u64
     requires { m < length dwarf.now.tree.entries }
     ensures { result ≡ placement.storage_of dwarf.now m (spec.type_size dwarf.now.tree m) }
 {
@@ -48,7 +49,7 @@ fn storage_of(dwarf: &Dwarf, m: usize) -> u64
 
 // The bit at which a member begins, from the beginning of its aggregate.
 #[tactic(auto, unfolding(type_reach::specs::Placement::bit_of))]
-fn first_bit(dwarf: &Dwarf, m: usize) -> i128
+fn first_bit(dwarf: &Dwarf, m: EntryNumber) -> i128
     requires { m < length dwarf.now.tree.entries }
     ensures { result ≡ spec.first_bit dwarf.now m }
 {
@@ -67,7 +68,7 @@ fn first_bit(dwarf: &Dwarf, m: usize) -> i128
 }
 
 // Whether an entry states the bits of a member.
-fn has_bits(dwarf: &Dwarf, m: usize) -> bool
+fn has_bits(dwarf: &Dwarf, m: EntryNumber) -> bool
     requires { m < length dwarf.now.tree.entries }
     ensures { result ≡ spec.has_bits dwarf.now.tree m }
 {
@@ -91,7 +92,7 @@ fn push_bit(text: &mut String, bit: i128) -> Result<(), AllocError>
 }
 
 // Appends where a member begins.
-fn push_begin(text: &mut String, dwarf: &Dwarf, m: usize) -> Result<(), AllocError>
+fn push_begin(text: &mut String, dwarf: &Dwarf, m: EntryNumber) -> Result<(), AllocError>
     requires { m < length dwarf.now.tree.entries }
     ensures { OnOk result (string_bytes text.new ≡ string_bytes text.old ++ spec.begin_text dwarf.now m) }
 {
@@ -104,7 +105,7 @@ fn push_begin(text: &mut String, dwarf: &Dwarf, m: usize) -> Result<(), AllocErr
 
 /// Appends the position of a member, and the width of a bit field.
 #[tactic(auto, unfolding(crate::specs::MemberPlaces::place_text))]
-pub(crate) fn push_place(text: &mut String, dwarf: &Dwarf, m: usize) -> Result<(), AllocError>
+pub(crate) fn push_place(text: &mut String, dwarf: &Dwarf, m: EntryNumber) -> Result<(), AllocError>
     requires { m < length dwarf.now.tree.entries }
     ensures { OnOk result (string_bytes text.new ≡ string_bytes text.old ++ spec.place_text dwarf.now m) }
 {

@@ -10,6 +10,7 @@ use abi_base::NoMemory;
 use abi_base::dwarf::DW_TAG_formal_parameter;
 use abi_types::push_shown;
 use dwarf_entries::Dwarf;
+use dwarf_tree::EntryNumber;
 use std::alloc::{AllocError, Global};
 use type_reach::body_of;
 
@@ -32,7 +33,7 @@ fn push_behind(
     alloc: Global,
     text: &mut String,
     dwarf: &Dwarf,
-    parameter: usize,
+    parameter: EntryNumber,
 ) -> Result<(), AllocError>
     requires { parameter < length dwarf.now.tree.entries }
     ensures { OnOk result (string_bytes text.new ≡ string_bytes text.old ++ named_behind dwarf.now parameter) }
@@ -46,7 +47,7 @@ fn push_all(
     alloc: Global,
     text: &mut String,
     dwarf: &Dwarf,
-    parameters: &[usize],
+    parameters: &[EntryNumber],
 ) -> Result<(), AllocError>
     requires { All (λ p. p < length dwarf.now.tree.entries) parameters.now }
     ensures { OnOk result (string_bytes text.new ≡ string_bytes text.old ++ flat_map (named_behind dwarf.now) parameters.now) }
@@ -60,7 +61,7 @@ fn push_all(
 
 // The names of the parameters of a function, as a text.
 #[tactic(auto, unfolding(crate::specs::Texts::names_text, type_reach::specs::References::tagged_children))]
-pub(crate) fn names_text(alloc: Global, dwarf: &Dwarf, e: usize) -> Result<Vec<u8>, NoMemory>
+pub(crate) fn names_text(alloc: Global, dwarf: &Dwarf, e: EntryNumber) -> Result<Vec<u8>, NoMemory>
     requires { e < length dwarf.now.tree.entries }
     ensures { IfOk result (λ text. text.items ≡ spec.names_text dwarf.now e) }
 {

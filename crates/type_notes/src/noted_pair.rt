@@ -1,4 +1,4 @@
-// Two libraries to be noted.
+// Two libraries with their debug entries, on which notes are made.
 use dwarf_entries::Dwarf;
 use pair_compare::BoundPair;
 

@@ -83,7 +83,7 @@ fn lies_inside(bits: Bits, size: u64) -> bool
     bits.from < bits.to && bits.to <= size as u128 * 8
 }
 
-// Whether the old structure has no member with the name of the new member at a position, and none where that one stands.
+// Whether the old structure has no member with the name of the new member at a position, and none at the bits of that one.
 #[tactic(auto, unfolding(crate::specs::Padding::fills))]
 fn fills(pair: &TypePair, k: usize) -> bool
     requires nodes { AreNodes pair.now }
@@ -165,7 +165,7 @@ fn is_structure<Ix: Index>(view: &View<Ix>) -> bool
     matches!(view.kind, Kind::Structure)
 }
 
-/// Adds a difference for each new member of a structure that stands where the old structure has no member.
+/// Adds a difference for each new member of a structure at bits where the old structure has no member.
 #[tactic(auto, unfolding(crate::specs::Padding::padding_changes))]
 pub(crate) fn push_padding_changes(
     alloc: Global,

@@ -1,6 +1,6 @@
-// A limit on notes. Types can share their names and parts, types can meet in all pairs, and a path is as long as the chain along which
-// it goes, so the notes on a small file can ask for far more work and text than it has bytes. The names and parts from which texts
-// are made are counted before the texts.
+// A limit on notes. Types can share their names and parts, types can meet in all pairs, and a path is as long as the chain along
+// which it goes, so notes on a small file can take far more work and text than it has bytes. The names and parts from which a text
+// is made are counted before the text is made.
 ghost use Rattle.std.specs.Prelude.{◌≡◌, ◌<◌, length, All, IfErr, IfSome};
 ghost use Rattle.abi_base.specs.declared.fault.NoMemory.TheVariants.{Past};
 ghost use Rattle.abi_base.specs.declared.limit.Limit.TheVariants.{Notes};
@@ -16,6 +16,8 @@ use abi_base::dwarf::{
 use abi_base::{Limit, NoMemory, taken};
 use abi_types::{Graph, Index, Label};
 use dwarf_entries::Dwarf;
+use dwarf_forms::DebugInfoOffset;
+use dwarf_tree::EntryNumber;
 use pair_explorer::Visit;
 use std::alloc::Global;
 use type_reach::{body_of, type_of};
@@ -28,6 +30,9 @@ const BYTES_AT_LEAST: usize = 1_048_576;
 
 // What a part, a name or a step of a chain takes besides its letters.
 const PART: usize = 32;
+
+// What a child takes besides that, since it is passed over more than once.
+const CHILD: usize = 4;
 
 // What a note takes besides its texts.
 const NOTE: usize = 128;
@@ -59,7 +64,7 @@ impl NoteRoom {
         Ok(())
     }
 
-    // Takes a name and what stands beside it.
+    // Takes a name, and a fixed amount for the part or type that it names.
     fn take_name(&mut self, name: Option<&[u8]>) -> Result<(), NoMemory> {
         let letters = name.unwrap_or(&[]).len();
         self.take(letters.saturating_add(PART))
@@ -70,7 +75,7 @@ impl NoteRoom {
         &mut self,
         alloc: Global,
         dwarf: &Dwarf,
-        e: usize,
+        e: EntryNumber,
         tag: u64,
     ) -> Result<(), NoMemory>
         requires { e < length dwarf.now.tree.entries }
@@ -82,10 +87,27 @@ impl NoteRoom {
         Ok(())
     }
 
-    // Takes the parameters, members, enumerators and dimensions of an entry.
-    fn take_entry(&mut self, alloc: Global, dwarf: &Dwarf, e: usize) -> Result<(), NoMemory>
+    // Takes the children of an entry, whatever their tags: those with a tag are found by passing over all of them.
+    fn take_children(&mut self, dwarf: &Dwarf, e: EntryNumber) -> Result<(), NoMemory>
         requires { e < length dwarf.now.tree.entries }
     {
+        let mut next = dwarf.next_child(e, None);
+        for _passed in 0..dwarf.len() {
+            let Some(child) = next else {
+                return Ok(());
+            };
+            self.take(CHILD)?;
+            next = dwarf.next_child(e, Some(child));
+        }
+        Ok(())
+    }
+
+    // Takes the parameters, members, enumerators and dimensions of an entry.
+    fn take_entry(&mut self, alloc: Global, dwarf: &Dwarf, e: EntryNumber) -> Result<(), NoMemory>
+        requires { e < length dwarf.now.tree.entries }
+    {
+        self.take_children(dwarf, body_of(dwarf, e))?;
+        self.take_children(dwarf, e)?;
         self.take_tagged(alloc, dwarf, body_of(dwarf, e), DW_TAG_formal_parameter)?;
         self.take_tagged(alloc, dwarf, e, DW_TAG_member)?;
         self.take_tagged(alloc, dwarf, e, DW_TAG_enumerator)?;
@@ -111,13 +133,13 @@ impl NoteRoom {
         requires { Ix.number_of ix < length graph.now }
     {
         self.take_labels(graph.labels(ix))?;
-        match core_at(dwarf, graph.entry_of(ix)) {
+        match core_at(dwarf, DebugInfoOffset::new(graph.entry_of(ix))) {
             Some(e) => self.take_entry(alloc, dwarf, e),
             None => Ok(()),
         }
     }
 
-    /// Takes the two types of a visit, and a look from each new member at each old one.
+    /// Takes the two types of a visit, and a comparison of each new member with each old one.
     pub(crate) fn take_visit(
         &mut self,
         alloc: Global,
@@ -137,7 +159,7 @@ impl NoteRoom {
     }
 
     // Takes the chain of types of a member, with the dimensions of its arrays.
-    fn take_chain(&mut self, alloc: Global, dwarf: &Dwarf, m: usize) -> Result<(), NoMemory>
+    fn take_chain(&mut self, alloc: Global, dwarf: &Dwarf, m: EntryNumber) -> Result<(), NoMemory>
         requires { m < length dwarf.now.tree.entries }
     {
         let mut at = Some(m);
@@ -155,7 +177,12 @@ impl NoteRoom {
     }
 
     // Takes the members or enumerators of a definition.
-    fn take_definition(&mut self, alloc: Global, dwarf: &Dwarf, e: usize) -> Result<(), NoMemory>
+    fn take_definition(
+        &mut self,
+        alloc: Global,
+        dwarf: &Dwarf,
+        e: EntryNumber,
+    ) -> Result<(), NoMemory>
         requires { e < length dwarf.now.tree.entries }
     {
         self.take(PART)?;
@@ -171,7 +198,7 @@ impl NoteRoom {
         &mut self,
         alloc: Global,
         dwarf: &Dwarf,
-        entries: &[usize],
+        entries: &[EntryNumber],
     ) -> Result<(), NoMemory>
         requires { All (λ e. e < length dwarf.now.tree.entries) entries.now }
     {

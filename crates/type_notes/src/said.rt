@@ -18,6 +18,7 @@ use abi_base::dwarf::{
     DW_TAG_atomic_type, DW_TAG_const_type, DW_TAG_restrict_type, DW_TAG_volatile_type,
 };
 use dwarf_entries::Dwarf;
+use dwarf_tree::EntryNumber;
 use std::alloc::Global;
 use type_reach::natural_of;
 
@@ -43,7 +44,12 @@ fn number_text(alloc: Global, number: Option<u64>) -> Result<Vec<u8>, NoMemory>
 }
 
 // The constant value of an entry's attribute.
-fn constant_text(alloc: Global, dwarf: &Dwarf, e: usize, name: u64) -> Result<Vec<u8>, NoMemory>
+fn constant_text(
+    alloc: Global,
+    dwarf: &Dwarf,
+    e: EntryNumber,
+    name: u64,
+) -> Result<Vec<u8>, NoMemory>
     requires { e < length dwarf.now.tree.entries }
     ensures { IfOk result (λ text. text.items ≡ texts_spec.constant_text dwarf.now.tree e name) }
 {
@@ -52,7 +58,7 @@ fn constant_text(alloc: Global, dwarf: &Dwarf, e: usize, name: u64) -> Result<Ve
 
 // The dimensions of an array.
 #[tactic(auto, unfolding(crate::specs::Texts::said))]
-fn dimensions(alloc: Global, dwarf: &Dwarf, e: usize) -> Result<Vec<u8>, NoMemory>
+fn dimensions(alloc: Global, dwarf: &Dwarf, e: EntryNumber) -> Result<Vec<u8>, NoMemory>
     requires { e < length dwarf.now.tree.entries }
     ensures { IfOk result (λ text. text.items ≡ texts_spec.said aspect_of.Dimensions dwarf.now e) }
 {
@@ -69,7 +75,7 @@ fn sign_word(sign: bool) -> &'static str
 
 // The sign of an enumeration.
 #[tactic(auto, unfolding(crate::specs::Texts::said))]
-fn sign(alloc: Global, dwarf: &Dwarf, e: usize) -> Result<Vec<u8>, NoMemory>
+fn sign(alloc: Global, dwarf: &Dwarf, e: EntryNumber) -> Result<Vec<u8>, NoMemory>
     requires { e < length dwarf.now.tree.entries }
     ensures { IfOk result (λ text. text.items ≡ texts_spec.said aspect_of.Sign dwarf.now e) }
 {
@@ -81,7 +87,7 @@ fn sign(alloc: Global, dwarf: &Dwarf, e: usize) -> Result<Vec<u8>, NoMemory>
 fn qualifier(
     alloc: Global,
     dwarf: &Dwarf,
-    e: usize,
+    e: EntryNumber,
     tag: u64,
     word: &str,
 ) -> Result<Vec<u8>, NoMemory>
@@ -97,7 +103,7 @@ pub(crate) fn said(
     alloc: Global,
     aspect: Aspect,
     dwarf: &Dwarf,
-    e: usize,
+    e: EntryNumber,
 ) -> Result<Vec<u8>, NoMemory>
     requires { e < length dwarf.now.tree.entries }
     ensures { IfOk result (λ text. text.items ≡ texts_spec.said aspect dwarf.now e) }

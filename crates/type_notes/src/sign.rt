@@ -12,6 +12,7 @@ use abi_base::dwarf::{
 };
 use dwarf_entries::Dwarf;
 use dwarf_forms::Value;
+use dwarf_tree::EntryNumber;
 use std::alloc::Global;
 use type_reach::number_at;
 
@@ -34,7 +35,7 @@ pub(crate) fn is_signed_encoding(encoding: u64) -> bool
 
 // Whether one of the enumerators is negative.
 #[tactic(auto, using(crate::proofs::AnyLemmas::any_more, crate::proofs::AnyLemmas::any_all, pair_rules::proofs::lemmas::Lists::any_is))]
-fn is_some_negative(dwarf: &Dwarf, enumerators: &[usize]) -> bool
+fn is_some_negative(dwarf: &Dwarf, enumerators: &[EntryNumber]) -> bool
     requires { All (λ c. c < length dwarf.now.tree.entries) enumerators.now }
     ensures { result ≡ list_any (λ c. spec.is_negative (attribute_along dwarf.now.tree c dw_at_const_value)) enumerators.now }
 {
@@ -49,7 +50,7 @@ fn is_some_negative(dwarf: &Dwarf, enumerators: &[usize]) -> bool
 
 // Whether an enumeration has a negative enumerator.
 #[tactic(auto, unfolding(type_reach::specs::References::tagged_children))]
-fn has_negative(alloc: Global, dwarf: &Dwarf, e: usize) -> Result<bool, NoMemory>
+fn has_negative(alloc: Global, dwarf: &Dwarf, e: EntryNumber) -> Result<bool, NoMemory>
     requires { e < length dwarf.now.tree.entries }
     ensures { IfOk result (λ negative. negative ≡ spec.has_negative dwarf.now.tree e) }
 {
@@ -59,7 +60,7 @@ fn has_negative(alloc: Global, dwarf: &Dwarf, e: usize) -> Result<bool, NoMemory
 
 // Whether an enumeration is signed.
 #[tactic(auto, unfolding(crate::specs::Texts::has_sign))]
-pub(crate) fn has_sign(alloc: Global, dwarf: &Dwarf, e: usize) -> Result<bool, NoMemory>
+pub(crate) fn has_sign(alloc: Global, dwarf: &Dwarf, e: EntryNumber) -> Result<bool, NoMemory>
     requires { e < length dwarf.now.tree.entries }
     ensures { IfOk result (λ sign. sign ≡ spec.has_sign dwarf.now.tree e) }
 {

@@ -1,6 +1,15 @@
 // Two types that are compared.
 use abi_types::{Graph, NewIx, OldIx};
 
+/// Whether each node of an old and of a new library's graph is packed, by its number.
+#[derive(Clone, Copy)]
+pub struct Packed<'x> {
+    /// Whether each old node is.
+    pub old: &'x [bool],
+    /// Whether each new node is.
+    pub new: &'x [bool],
+}
+
 /// A type of an old library, and the type of a new library that takes its place.
 #[derive(Clone, Copy)]
 pub struct TypePair<'x, 'o, 'n> {
@@ -12,4 +21,6 @@ pub struct TypePair<'x, 'o, 'n> {
     pub old: OldIx,
     /// The new type.
     pub new: NewIx,
+    /// Which nodes of both graphs are packed.
+    pub packed: Packed<'x>,
 }

@@ -7,6 +7,7 @@ ghost use Rattle.pair_explorer.specs.Visits.{AreEarlier};
 ghost use Rattle.pair_rules.specs.Steps as steps_spec;
 ghost use Rattle.cert_check.specs.Compatible.{task_of};
 ghost use Rattle.type_notes.specs.DefinedElsewhere.{AreOfBoth, definitions_behind};
+ghost use Rattle.type_notes.specs.TypePairs.{ArePacked};
 ghost use Rattle.type_notes.specs.NotedPairs.{AreCompared, AreNotes, AreReadable, IsReadable, change_behind, change_unless, difference_note, differences_of, is_of, new_core, noted_at, noted_pair, notes_at, notes_below, old_core};
 
 use crate::between::{DwarfPair, push_differences};
@@ -17,10 +18,13 @@ use crate::elsewhere::{Kin, definitions_by, kin_change};
 use crate::entries::EntryPair;
 use crate::note::Note;
 use crate::noted_pair::NotedPair;
+use crate::packing::packed_nodes;
 use crate::room::NoteRoom;
-use crate::type_pair::TypePair;
+use crate::type_pair::{Packed, TypePair};
 use abi_base::{List, NoMemory};
 use abi_types::{Index, OldIx, Way};
+use dwarf_forms::DebugInfoOffset;
+use dwarf_tree::EntryNumber;
 use pair_compare::explore_types;
 use pair_compare::reports::laws::paths_end_where_they_lead;
 use pair_compare::reports::{label_at, steps_text};
@@ -77,12 +81,14 @@ fn push_all(
     Ok(())
 }
 
-// The differences between the types of a visit.
+// The differences between the types of a visit, by the lists of which nodes are packed.
 fn differences_at(
     alloc: Global,
     ground: &NotedPair,
+    packed: &Packed,
     visit: &Visit,
 ) -> Result<List<Difference>, NoMemory>
+    requires packed { ArePacked ground.now.pair.old.now.graph ground.now.pair.new.now.graph packed.now }
     requires old { visit.now.old < length ground.now.pair.old.now.graph }
     requires new { visit.now.new < length ground.now.pair.new.now.graph }
     ensures { IfOk result (λ list. list ≡ differences_of (noted_pair ground.now) visit.now) }
@@ -96,6 +102,7 @@ fn differences_at(
         new_graph: ground.pair.new.graph(),
         old: visit.old,
         new: visit.new,
+        packed: *packed,
     };
     let mut list = List::new(alloc);
     push_differences(alloc, &mut list, &dwarfs, &types)?;
@@ -107,7 +114,7 @@ fn definitions_of_types(
     ground: &NotedPair,
     definitions: &DefinitionPair,
     visit: &Visit,
-) -> Option<(usize, usize)>
+) -> Option<(EntryNumber, EntryNumber)>
     requires definitions { AreOfBoth ground.now.old_dwarf.now ground.now.new_dwarf.now definitions.now }
     requires old { visit.now.old < length ground.now.pair.old.now.graph }
     requires new { visit.now.new < length ground.now.pair.new.now.graph }
@@ -117,11 +124,11 @@ fn definitions_of_types(
 {
     let old = core_at(
         ground.old_dwarf,
-        ground.pair.old.graph().entry_of(visit.old),
+        DebugInfoOffset::new(ground.pair.old.graph().entry_of(visit.old)),
     );
     let new = core_at(
         ground.new_dwarf,
-        ground.pair.new.graph().entry_of(visit.new),
+        DebugInfoOffset::new(ground.pair.new.graph().entry_of(visit.new)),
     );
     match (old, new) {
         (Some(old), Some(new)) => {
@@ -159,11 +166,12 @@ fn push_under_path(
     push_all(alloc, notes, export.as_str(), path.as_str(), found)
 }
 
-// The input of the walk: the libraries with their definitions, and what was explored.
+// The input of the walk: the libraries with their definitions and packed nodes, and what was explored.
 #[derive(Clone, Copy)]
 struct Walk<'w, 'x, 'o, 'n, 'd, 'e> {
     ground: &'w NotedPair<'x, 'o, 'n, 'd, 'e>,
     definitions: &'w DefinitionPair<'w, 'd, 'e>,
+    packed: Packed<'w>,
     visits: &'w Visits,
 }
 
@@ -171,7 +179,7 @@ struct Walk<'w, 'x, 'o, 'n, 'd, 'e> {
 fn change_of(
     alloc: Global,
     walk: &Walk,
-    found: (usize, usize),
+    found: (EntryNumber, EntryNumber),
     room: &mut NoteRoom,
 ) -> Result<Option<Difference>, NoMemory>
     requires definitions { AreOfBoth walk.now.ground.now.old_dwarf.now walk.now.ground.now.new_dwarf.now walk.now.definitions.now }
@@ -199,7 +207,7 @@ fn push_definitions(
     list: &mut List<Difference>,
     compared: &mut HashSet<usize>,
     walk: &Walk,
-    found: Option<(usize, usize)>,
+    found: Option<(EntryNumber, EntryNumber)>,
     room: &mut NoteRoom,
 ) -> Result<(), NoMemory>
     requires definitions { AreOfBoth walk.now.ground.now.old_dwarf.now walk.now.ground.now.new_dwarf.now walk.now.definitions.now }
@@ -212,7 +220,7 @@ fn push_definitions(
         Some(found) => found,
         None => return Ok(()),
     };
-    if !compared.insert(found.0)? {
+    if !compared.insert(found.0.index())? {
         return Ok(());
     }
     push_found(list, change_of(alloc, walk, found, room)?)
@@ -229,6 +237,7 @@ fn push_visit(
     room: &mut NoteRoom,
 ) -> Result<(), NoMemory>
     requires definitions { AreOfBoth walk.now.ground.now.old_dwarf.now walk.now.ground.now.new_dwarf.now walk.now.definitions.now }
+    requires packed { ArePacked walk.now.ground.now.pair.old.now.graph walk.now.ground.now.pair.new.now.graph walk.now.packed }
     requires readable { IsReadable (sides_of walk.now.ground.now.pair) walk.now.visits.now number }
     requires earlier { AreEarlier walk.now.visits.now }
     requires compared { AreCompared (noted_pair walk.now.ground.now) walk.now.visits.now number compared.old }
@@ -240,7 +249,7 @@ fn push_visit(
         return Ok(());
     }
     room.take_visit(alloc, walk.ground, &visit)?;
-    let mut found = differences_at(alloc, walk.ground, &visit)?;
+    let mut found = differences_at(alloc, walk.ground, &walk.packed, &visit)?;
     let defined = definitions_of_types(walk.ground, walk.definitions, &visit);
     push_definitions(alloc, &mut found, compared, walk, defined, room)?;
     if found.as_slice().is_empty() {
@@ -259,6 +268,7 @@ fn push_visit(
 // The notes of all visits, in order.
 fn notes_along(alloc: Global, walk: &Walk) -> Result<List<Note>, NoMemory>
     requires definitions { AreOfBoth walk.now.ground.now.old_dwarf.now walk.now.ground.now.new_dwarf.now walk.now.definitions.now }
+    requires packed { ArePacked walk.now.ground.now.pair.old.now.graph walk.now.ground.now.pair.new.now.graph walk.now.packed }
     requires readable { AreReadable (sides_of walk.now.ground.now.pair) walk.now.visits.now }
     ensures { IfOk result (λ notes. notes ≡ notes_below (noted_pair walk.now.ground.now) walk.now.visits.now (length walk.now.visits.now)) }
 {
@@ -271,7 +281,7 @@ fn notes_along(alloc: Global, walk: &Walk) -> Result<List<Note>, NoMemory>
     Ok(notes)
 }
 
-// The notes of all visits, in order; it first collects the definitions of both libraries.
+// The notes of all visits, in order; it first collects the definitions and the packed nodes of both libraries.
 fn notes_with_definitions(
     alloc: Global,
     ground: &NotedPair,
@@ -286,9 +296,16 @@ fn notes_with_definitions(
         old: &old,
         new: &new,
     };
+    let old_packed = packed_nodes(alloc, ground.pair.old.graph())?;
+    let new_packed = packed_nodes(alloc, ground.pair.new.graph())?;
+    let packed = Packed {
+        old: old_packed.as_slice(),
+        new: new_packed.as_slice(),
+    };
     let walk = Walk {
         ground,
         definitions: &definitions,
+        packed,
         visits,
     };
     notes_along(alloc, &walk)

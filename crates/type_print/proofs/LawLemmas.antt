@@ -13,7 +13,7 @@ use Rattle.type_print.specs.Rows.{Fits, IsHole, IsPadding, IsRow, key_of, AreRow
 use Rattle.type_print.specs.Laws.{Lies, RowHolds, row_end, row_at, IsClean, CoverEachBitOnce, RowsNameClashes, RowsAreDetermined}
 use Rattle.type_print.proofs.ListLemmas.{pairs_head, pairs_tail}
 use Rattle.type_print.proofs.OrderLemmas.{below_not_both, below_not_itself, precede_cases, names_itself, same_member}
-use Rattle.type_print.proofs.SweepLemmas.{held_head, held_tail, held_cases}
+use Rattle.type_print.proofs.HeldBits.{held_head, held_tail, held_cases}
 use Rattle.type_print.proofs.JoinLemmas.{overlap_there}
 
 -- ---- clashes have rows

@@ -1,4 +1,6 @@
 mod FindLemmas
+mod GapRows
+mod HeldBits
 mod JoinLemmas
 mod LawLemmas
 mod ListLemmas

@@ -7,8 +7,8 @@ use Rattle.std.proofs.lemmas.List.{length-append}
 use Rattle.std.proofs.lemmas.List.Elements.{Contains-append_left, Contains-append_cases, Contains-get_or}
 use Rattle.std.proofs.lemmas.Map.Steps.{length-le_from_distinct_below}
 use Rattle.std.proofs.lemmas.Map.Views.{Contains-from_any}
-use Rattle.std.proofs.lemmas.Option.{same_Some, slice_get_within, get_or_from_slice_get}
-use Rattle.abi_base.proofs.lemmas.Lists.{contains_at, at_below, slice_get-before}
+use Rattle.std.proofs.lemmas.Option.{same_Some, slice_get_within}
+use Rattle.abi_base.proofs.lemmas.Lists.{contains_at, slice_get-before}
 use Rattle.abi_base.proofs.lemmas.Contained.{in_front, at_front, in_rest, in_none}
 use Rattle.dwarf_tree.specs.Trees.{PlainTree}
 use Rattle.type_reach.specs.References.{Type_, types_of, own_types, type_of, parts_of, has_type, role_of}

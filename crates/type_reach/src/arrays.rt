@@ -6,11 +6,12 @@ use crate::values::{counted_to, natural_of};
 use abi_base::NoMemory;
 use abi_base::dwarf::{DW_AT_count, DW_AT_upper_bound, DW_TAG_subrange_type};
 use dwarf_entries::Dwarf;
+use dwarf_tree::EntryNumber;
 use std::alloc::Global;
 
 // The number of elements of a dimension.
 #[tactic(auto, unfolding(crate::specs::Facts::subrange_count))]
-fn subrange_count(dwarf: &Dwarf, subrange: usize) -> u64
+fn subrange_count(dwarf: &Dwarf, subrange: EntryNumber) -> u64
     requires { subrange < length dwarf.now.tree.entries }
     ensures { result ≡ spec.subrange_count dwarf.now.tree subrange }
 {
@@ -21,7 +22,7 @@ fn subrange_count(dwarf: &Dwarf, subrange: usize) -> u64
 }
 
 // The product of the dimensions' numbers of elements.
-fn product(dwarf: &Dwarf, subranges: &[usize]) -> u64
+fn product(dwarf: &Dwarf, subranges: &[EntryNumber]) -> u64
     requires { All (λ s. s < length dwarf.now.tree.entries) subranges.now }
     ensures { result ≡ spec.product (map (spec.subrange_count dwarf.now.tree) subranges.now) }
 {
@@ -37,7 +38,7 @@ fn product(dwarf: &Dwarf, subranges: &[usize]) -> u64
 
 /// The number of elements of an array, at most 2^64 - 1. An array without a dimension has none.
 #[tactic(auto, unfolding(crate::specs::Facts::array_count, crate::specs::References::tagged_children))]
-pub(crate) fn array_count(alloc: Global, dwarf: &Dwarf, e: usize) -> Result<u64, NoMemory>
+pub(crate) fn array_count(alloc: Global, dwarf: &Dwarf, e: EntryNumber) -> Result<u64, NoMemory>
     requires { e < length dwarf.now.tree.entries }
     ensures { IfOk result (λ count. count ≡ spec.array_count dwarf.now.tree e) }
 {

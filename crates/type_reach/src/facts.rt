@@ -14,6 +14,7 @@ use crate::values::number_at;
 use abi_base::NoMemory;
 use abi_base::dwarf::DW_AT_byte_size;
 use dwarf_entries::Dwarf;
+use dwarf_tree::EntryNumber;
 use std::alloc::Global;
 
 /// The least and the greatest offset of something, in bits.
@@ -48,7 +49,7 @@ pub struct Facts {
     /// The offsets of the core's flat members, or None where it has none.
     pub span: Option<Span>,
     /// The entry of its core, or None for void.
-    pub core: Option<usize>,
+    pub core: Option<EntryNumber>,
 }
 
 /// The facts of void.
@@ -135,7 +136,7 @@ fn first(facts: &[Facts]) -> Facts
 
 // The size that an entry gives. A declaration has none.
 #[tactic(auto, unfolding(crate::specs::Facts::own_size))]
-fn own_size(dwarf: &Dwarf, e: usize) -> u64
+fn own_size(dwarf: &Dwarf, e: EntryNumber) -> u64
     requires { e < length dwarf.now.tree.entries }
     ensures { result ≡ facts_spec.own_size dwarf.now.tree e }
 {
@@ -147,7 +148,7 @@ fn own_size(dwarf: &Dwarf, e: usize) -> u64
 }
 
 // The size of a type. If its core is an array, `count` is the number of its elements.
-fn size(dwarf: &Dwarf, e: usize, role: Role, facts: &[Facts], count: u64) -> u64
+fn size(dwarf: &Dwarf, e: EntryNumber, role: Role, facts: &[Facts], count: u64) -> u64
     requires inside { e < length dwarf.now.tree.entries }
     requires count { count ≡ count_for role dwarf.now.tree e facts.now }
     ensures { result ≡ size_for role dwarf.now.tree e facts.now }
@@ -168,7 +169,7 @@ fn size(dwarf: &Dwarf, e: usize, role: Role, facts: &[Facts], count: u64) -> u64
 fn count(
     alloc: Global,
     dwarf: &Dwarf,
-    e: usize,
+    e: EntryNumber,
     role: Role,
     facts: &[Facts],
 ) -> Result<u64, NoMemory>
@@ -209,7 +210,7 @@ fn rooms(role: Role, facts: &[Facts]) -> u64
 }
 
 // The entry of the core of a type.
-fn core(e: usize, role: Role, facts: &[Facts]) -> Option<usize>
+fn core(e: EntryNumber, role: Role, facts: &[Facts]) -> Option<EntryNumber>
     ensures { result ≡ core_for role e facts.now }
 {
     let one = first(facts);
@@ -233,7 +234,7 @@ fn aggregate(role: Role, facts: &[Facts]) -> bool
 
 // The explicit alignment.
 #[tactic(auto, unfolding(crate::specs::Facts::align_from))]
-fn align(dwarf: &Dwarf, e: usize, role: Role, facts: &[Facts], held: u64) -> u64
+fn align(dwarf: &Dwarf, e: EntryNumber, role: Role, facts: &[Facts], held: u64) -> u64
     requires inside { e < length dwarf.now.tree.entries }
     requires role { role ≡ references_spec.role_of dwarf.now.tree e }
     requires held { held ≡ most (map (member_align dwarf.now) (members_with dwarf.now.tree e facts.now)) }
@@ -274,8 +275,8 @@ fn beyond(role: Role, facts: &[Facts], own: bool) -> bool
 pub(crate) fn combine(
     alloc: Global,
     dwarf: &Dwarf,
-    e: usize,
-    parts: &[u32],
+    e: EntryNumber,
+    parts: &[EntryNumber],
     facts: &[Facts],
 ) -> Result<Facts, NoMemory>
     requires inside { e < length dwarf.now.tree.entries }

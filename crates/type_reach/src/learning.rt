@@ -1,5 +1,5 @@
 // Computes the facts of all found entries, each once, after those of the types that it holds by value.
-ghost use Rattle.std.specs.Prelude.{◌≡◌, ◌<◌, ◌≤◌, ◌+◌, ℕ, List, Some, length, slice_get, All, Contains, IfOk, IfSome, IfNone, OnOk, IsPermutation};
+ghost use Rattle.std.specs.Prelude.{◌≡◌, ◌<◌, ◌≤◌, ◌+◌, ℕ, List, Some, length, slice_get, slice_set, All, Contains, IfOk, IfSome, IfNone, OnOk, IsPermutation};
 ghost use Rattle.std.specs.List.Sorted.{IsNonDecreasing};
 ghost use Rattle.abi_base.specs.Limits.{depth_limit};
 ghost use Rattle.abi_base.specs.Outcome.{Judges};
@@ -14,9 +14,10 @@ use crate::facts::{Facts, VOID, combine};
 use crate::reached_entries::ReachedEntries;
 use crate::references::steps_among;
 use crate::role::role_of;
-use crate::type_references::{TypeReferences, parts_at, types_at, widened};
+use crate::type_references::{TypeReferences, parts_at, types_at};
 use abi_base::{Fault, FaultKind, NoMemory, Refusal};
 use dwarf_entries::Dwarf;
+use dwarf_tree::EntryNumber;
 use std::alloc::Global;
 
 // Debug information, the found entries, and the types to which they lead.
@@ -40,12 +41,20 @@ fn within(facts: Facts, budget: u32) -> Option<Facts>
     }
 }
 
+// Notes the facts of the found entry with this number.
+fn note(known: &mut Vec<Option<Facts>>, number: usize, facts: &Facts)
+    requires { number < length known.old.items }
+    ensures { known.new.items ≡ slice_set known.old.items number (Some facts.now) }
+{
+    known[number] = Some(*facts);
+}
+
 // The facts of a type, or None where a chain of more steps by value than the budget begins at it.
 fn learn(
     alloc: Global,
     types: &FoundTypes<'_, '_>,
     known: &mut Vec<Option<Facts>>,
-    ty: Option<usize>,
+    ty: Option<EntryNumber>,
     budget: u32,
 ) -> Result<Option<Facts>, NoMemory>
     requires closed { IsClosed types.now.dwarf.now.tree types.now.found.now }
@@ -77,18 +86,18 @@ fn learn(
         if budget == 0 {
             return Ok(None);
         }
-        match learn(alloc, types, known, widened(steps[k]), budget - 1)? {
+        match learn(alloc, types, known, steps[k], budget - 1)? {
             Some(one) => of_steps.push(one)?,
             None => return Ok(None),
         }
     }
     let made = combine(alloc, types.dwarf, e, parts, of_steps.as_slice())?;
-    known[number] = Some(made);
+    note(known, number, &made);
     Ok(Some(made))
 }
 
 /// The found entries, by offset.
-pub fn in_order(alloc: Global, found: &ReachedEntries) -> Result<Vec<usize>, NoMemory>
+pub fn in_order(alloc: Global, found: &ReachedEntries) -> Result<Vec<EntryNumber>, NoMemory>
     ensures same { IfOk result (λ order. IsPermutation found.now order.items) }
     ensures order { IfOk result (λ order. IsNonDecreasing order.items) }
 {
@@ -105,7 +114,7 @@ fn find_deep(
     alloc: Global,
     types: &FoundTypes<'_, '_>,
     known: &mut Vec<Option<Facts>>,
-) -> Result<Option<usize>, NoMemory>
+) -> Result<Option<EntryNumber>, NoMemory>
     requires closed { IsClosed types.now.dwarf.now.tree types.now.found.now }
     requires leads { AreTypeReferences types.now.dwarf.now.tree types.now.found.now types.now.leads.now }
     requires known { AreFacts types.now.dwarf.now types.now.found.now known.old.items }
@@ -172,7 +181,7 @@ pub fn learn_all(
         Some(e) => {
             return Err(Refusal::Fault(Fault {
                 kind: FaultKind::TooDeep,
-                at: dwarf.offset(e),
+                at: dwarf.offset(e).get(),
             }));
         }
         None => {}
@@ -181,7 +190,12 @@ pub fn learn_all(
 }
 
 /// The facts of a found type.
-pub fn facts_at(dwarf: &Dwarf, found: &ReachedEntries, facts: &[Facts], ty: Option<usize>) -> Facts
+pub fn facts_at(
+    dwarf: &Dwarf,
+    found: &ReachedEntries,
+    facts: &[Facts],
+    ty: Option<EntryNumber>,
+) -> Facts
     requires facts { AreAllFacts dwarf.now found.now facts.now }
     requires there { IfSome ty (λ e. Contains found.now e) }
     ensures { result ≡ facts_of dwarf.now ty }
@@ -202,7 +216,7 @@ pub fn facts_by_number(
     found: &ReachedEntries,
     facts: &[Facts],
     number: usize,
-    e: usize,
+    e: EntryNumber,
 ) -> Facts
     requires facts { AreAllFacts dwarf.now found.now facts.now }
     requires at { slice_get found.now number ≡ Some e }

@@ -32,7 +32,7 @@ pub use start::Start;
 pub use summaries::{Summary, summaries_of, summary_at, summary_by_number};
 pub use type_references::{
     TypeReferences, member_type, own_type, part_type, parts_at, type_references_of, types_at,
-    variadic_at, widened,
+    variadic_at,
 };
 pub use values::{counted_to, is_there, natural_of, number_at, place_of, wrapped_of};
 pub use walking::reached;

@@ -12,10 +12,11 @@ use crate::placement::{bit_of, is_nameless, is_out_of_range};
 use crate::values::number_at;
 use abi_base::dwarf::DW_AT_alignment;
 use dwarf_entries::Dwarf;
+use dwarf_tree::EntryNumber;
 
 // The explicit alignment that an entry itself gives.
 #[tactic(auto, unfolding(crate::specs::Facts::own_align))]
-pub(crate) fn own_align(dwarf: &Dwarf, e: usize) -> u64
+pub(crate) fn own_align(dwarf: &Dwarf, e: EntryNumber) -> u64
     requires { e < length dwarf.now.tree.entries }
     ensures { result ≡ facts_spec.own_align dwarf.now.tree e }
 {
@@ -24,7 +25,7 @@ pub(crate) fn own_align(dwarf: &Dwarf, e: usize) -> u64
 
 // The explicit alignment that a member contributes: its own and, if it is nameless, that of its structure or union.
 #[tactic(auto, unfolding(crate::specs::Facts::member_align, crate::specs::Facts::is_replaced))]
-fn member_align(dwarf: &Dwarf, m: usize, of_type: &Facts, nameless: bool) -> u64
+fn member_align(dwarf: &Dwarf, m: EntryNumber, of_type: &Facts, nameless: bool) -> u64
     requires inside { m < length dwarf.now.tree.entries }
     requires nameless { nameless ≡ placement_spec.is_nameless dwarf.now m }
     ensures { result ≡ facts_spec.member_align dwarf.now (m, of_type.now) }
@@ -85,7 +86,13 @@ fn joined(a: Option<Span>, b: Option<Span>) -> Option<Span>
 
 // The offset of a member at `bit`, or those of the members that replace it.
 #[tactic(auto, unfolding(crate::specs::Facts::member_span))]
-fn member_span(dwarf: &Dwarf, m: usize, of_type: &Facts, bit: i128, nameless: bool) -> Option<Span>
+fn member_span(
+    dwarf: &Dwarf,
+    m: EntryNumber,
+    of_type: &Facts,
+    bit: i128,
+    nameless: bool,
+) -> Option<Span>
     requires bit { bit ≡ placement_spec.bit_of dwarf.now m of_type.now.size }
     requires bit_near { IsNear 1 bit }
     requires nameless { nameless ≡ placement_spec.is_nameless dwarf.now m }
@@ -120,7 +127,13 @@ pub(crate) fn span_out_of_range(span: Option<Span>) -> bool
 
 // Whether a member at `bit` is out of range, or another member is.
 #[tactic(auto, unfolding(crate::specs::Facts::member_beyond))]
-fn either_out_of_range(dwarf: &Dwarf, m: usize, of_type: &Facts, bit: i128, other: bool) -> bool
+fn either_out_of_range(
+    dwarf: &Dwarf,
+    m: EntryNumber,
+    of_type: &Facts,
+    bit: i128,
+    other: bool,
+) -> bool
     requires { bit ≡ placement_spec.bit_of dwarf.now m of_type.now.size }
     ensures { result ≡ (facts_spec.member_beyond dwarf.now (m, of_type.now) || other) }
 {
@@ -141,7 +154,7 @@ pub(crate) struct MemberTotals {
 /// The totals over members, each paired with the facts of its type.
 pub(crate) fn member_totals_of(
     dwarf: &Dwarf,
-    members: &[u32],
+    members: &[EntryNumber],
     of_types: &[Facts],
     rank: u32,
 ) -> MemberTotals
@@ -161,7 +174,7 @@ pub(crate) fn member_totals_of(
     let mut k = members.len().min(of_types.len());
     'down: while k > 0 {
         k -= 1;
-        let m = members[k] as usize;
+        let m = members[k];
         let of_type = of_types[k];
         let bit = bit_of(dwarf, m, of_type.size);
         let nameless = is_nameless(dwarf, m);

@@ -1,4 +1,4 @@
-// The entries from which functions take their parameters. Many functions may share one, and what stands below it is looked up once.
+// The entries from which functions take their parameters. Many functions may share one; the entries below it are looked up once.
 ghost use Rattle.std.specs.Prelude.{◌≡◌, ◌<◌, ℕ, if◌then◌else◌, ◌==◌, length, Some, None, IfSome, OnOk};
 ghost use Rattle.std.specs.Option.{option_map_or, option_or};
 ghost use Rattle.type_reach.specs.declared.role.Role.TheVariants as roles;
@@ -9,11 +9,12 @@ use crate::references::body_of;
 use crate::role::Role;
 use abi_base::NoMemory;
 use dwarf_entries::Dwarf;
+use dwarf_tree::EntryNumber;
 use std::alloc::Global;
 use std::collections::BTreeMap;
 
-// The entry below which the parameters of a function stand, if it is another one.
-pub(crate) fn other_body(dwarf: &Dwarf, e: usize, role: Role) -> Option<usize>
+// The entry below which the parameters of a function are, if that is another entry.
+pub(crate) fn other_body(dwarf: &Dwarf, e: EntryNumber, role: Role) -> Option<EntryNumber>
     requires inside { e < length dwarf.now.tree.entries }
     requires role { role ≡ spec.role_of dwarf.now.tree e }
     ensures role { IfSome result (λ b. spec.role_of dwarf.now.tree e ≡ roles.Function) }
@@ -31,7 +32,7 @@ pub(crate) fn other_body(dwarf: &Dwarf, e: usize, role: Role) -> Option<usize>
 // For each such entry the number of the first function that shares it.
 #[derive(Drop)]
 pub(crate) struct Origins {
-    numbers: BTreeMap<usize, usize>,
+    numbers: BTreeMap<EntryNumber, usize>,
 }
 
 impl Origins {
@@ -45,17 +46,21 @@ impl Origins {
     }
 
     // The number of the first function that takes its parameters from this entry.
-    pub(crate) fn first_with(&self, origin: Option<usize>) -> Option<usize>
-        ensures { result ≡ option_map_or (number_under self.now) origin None }
+    pub(crate) fn first_with(&self, origin: &Option<EntryNumber>) -> Option<usize>
+        ensures { result ≡ option_map_or (number_under self.now) origin.now None }
     {
         match origin {
-            Some(body) => self.numbers.get(&body).copied(),
+            Some(body) => self.numbers.get(body).copied(),
             None => None,
         }
     }
 
     // Notes the number of a function that takes its parameters from this entry, if it is the first one.
-    pub(crate) fn keep(&mut self, origin: Option<usize>, number: usize) -> Result<(), NoMemory>
+    pub(crate) fn keep(
+        &mut self,
+        origin: Option<EntryNumber>,
+        number: usize,
+    ) -> Result<(), NoMemory>
         ensures { OnOk result ((b : ℕ) → number_under self.new b ≡ option_or (number_under self.old b) (if is_some_entry b origin then Some number else None)) }
     {
         if let Some(body) = origin {

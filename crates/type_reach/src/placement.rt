@@ -11,10 +11,11 @@ use abi_base::dwarf::{
 };
 use dwarf_entries::Dwarf;
 use dwarf_entries::laws::types_and_names_are_there;
+use dwarf_tree::EntryNumber;
 
 // The offset of a member in bytes.
 #[tactic(auto, unfolding(crate::specs::Placement::byte_of))]
-fn byte_of(dwarf: &Dwarf, m: usize) -> u64
+fn byte_of(dwarf: &Dwarf, m: EntryNumber) -> u64
     requires { m < length dwarf.now.tree.entries }
     ensures { result ≡ spec.byte_of dwarf.now m }
 {
@@ -23,7 +24,7 @@ fn byte_of(dwarf: &Dwarf, m: usize) -> u64
 
 // The size of a bit field's storage, if its type has a size.
 #[tactic(auto, unfolding(crate::specs::Placement::storage_of))]
-fn storage_of(dwarf: &Dwarf, m: usize, size: u64) -> u64
+fn storage_of(dwarf: &Dwarf, m: EntryNumber, size: u64) -> u64
     requires { m < length dwarf.now.tree.entries }
     ensures { result ≡ spec.storage_of dwarf.now m size }
 {
@@ -36,7 +37,7 @@ fn storage_of(dwarf: &Dwarf, m: usize, size: u64) -> u64
 
 /// The width of a member in bits if it is a bit field, else 0.
 #[tactic(auto, unfolding(crate::specs::Placement::width_of))]
-pub fn width_of(dwarf: &Dwarf, m: usize) -> u64
+pub fn width_of(dwarf: &Dwarf, m: EntryNumber) -> u64
     requires { m < length dwarf.now.tree.entries }
     ensures { result ≡ spec.width_of dwarf.now m }
 {
@@ -46,7 +47,7 @@ pub fn width_of(dwarf: &Dwarf, m: usize) -> u64
 // The offset of a member in bits, from the start of its aggregate, if its type has a size in bytes. It is near 0, so that sums of
 // such offsets do not overflow.
 #[tactic(auto, unfolding(crate::specs::Placement::bit_of))]
-pub(crate) fn bit_of(dwarf: &Dwarf, m: usize, size: u64) -> i128
+pub(crate) fn bit_of(dwarf: &Dwarf, m: EntryNumber, size: u64) -> i128
     requires { m < length dwarf.now.tree.entries }
     ensures is { result ≡ spec.bit_of dwarf.now m size }
     ensures near { IsNear 1 result }
@@ -75,7 +76,7 @@ pub fn is_out_of_range(bit: i128) -> bool
 /// Whether a member has no name, its own or inherited. For an entry with the tag of a member, no letter of the name is read.
 // Such an entry has no fault, so its name attribute, if there is one, leads to a string.
 #[tactic(auto, unfolding(crate::specs::Placement::is_nameless))]
-pub fn is_nameless(dwarf: &Dwarf, m: usize) -> bool
+pub fn is_nameless(dwarf: &Dwarf, m: EntryNumber) -> bool
     requires { m < length dwarf.now.tree.entries }
     ensures { result ≡ spec.is_nameless dwarf.now m }
 {

@@ -5,14 +5,14 @@ ghost use Rattle.type_reach.specs.VisitedEntries.{marked_places};
 
 use crate::searches::{BETWEEN_HINTS, hint_for, place_near};
 use abi_base::NoMemory;
+use dwarf_tree::EntryNumber;
 use std::alloc::Global;
 use std::marker::Model;
 
 /// Entries, each once, by offset. Contracts see the list of their positions.
 #[derive(Drop)]
 pub struct ReachedEntries {
-    // Positions take 32 bits, since there are fewer than 2^32 entries.
-    entries: Vec<u32>,
+    entries: Vec<EntryNumber>,
     // For each block of entries of the tree, the number of found entries before it. Hints only save time: the result is the same
     // whatever they are.
     hints: Vec<u32>,
@@ -46,7 +46,7 @@ impl ReachedEntries {
                 hints.push(entries.len() as u32)?;
             }
             if marks[e] {
-                entries.push(e as u32)?;
+                entries.push(EntryNumber::new(e as u32))?;
             }
         }
         Ok(ReachedEntries { entries, hints })
@@ -60,15 +60,15 @@ impl ReachedEntries {
     }
 
     /// The entry with this number.
-    pub fn at(&self, number: usize) -> usize
+    pub fn at(&self, number: usize) -> EntryNumber
         requires { number < length self.now }
         ensures { slice_get self.now number ≡ Some result }
     {
-        self.entries[number] as usize
+        self.entries[number]
     }
 
     // The number of an entry.
-    fn place(&self, e: usize) -> Option<usize>
+    fn place(&self, e: EntryNumber) -> Option<usize>
         ensures place { result ≡ position (nat_eq e) self.now }
         ensures inside { IfSome result (λ i. i < length self.now) }
     {
@@ -77,7 +77,7 @@ impl ReachedEntries {
     }
 
     /// The number of an entry. None exactly where it was not found.
-    pub fn number(&self, e: usize) -> Option<usize>
+    pub fn number(&self, e: EntryNumber) -> Option<usize>
         ensures number { result ≡ position (nat_eq e) self.now }
         ensures inside { IfSome result (λ i. i < length self.now) }
         ensures at { IfSome result (λ i. slice_get self.now i ≡ Some e) }
@@ -87,7 +87,7 @@ impl ReachedEntries {
     }
 
     /// The number of a found entry.
-    pub fn number_of(&self, e: usize) -> usize
+    pub fn number_of(&self, e: EntryNumber) -> usize
         requires { Contains self.now e }
         ensures { slice_get self.now result ≡ Some e }
     {

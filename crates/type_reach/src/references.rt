@@ -10,11 +10,12 @@ use abi_base::dwarf::{
     DW_TAG_unspecified_parameters,
 };
 use dwarf_entries::Dwarf;
+use dwarf_tree::EntryNumber;
 use std::alloc::Global;
 
 /// The type of an entry, its own or inherited, or None for void.
 #[tactic(auto, unfolding(crate::specs::References::type_of))]
-pub fn type_of(dwarf: &Dwarf, e: usize) -> Option<usize>
+pub fn type_of(dwarf: &Dwarf, e: EntryNumber) -> Option<EntryNumber>
     requires { e < length dwarf.now.tree.entries }
     ensures found { result ≡ spec.type_of dwarf.now.tree e }
     ensures inside { IfSome result (λ f. f < length dwarf.now.tree.entries) }
@@ -29,7 +30,7 @@ pub fn type_of(dwarf: &Dwarf, e: usize) -> Option<usize>
 
 /// The entry whose children are the parameters of a function: for a subprogram, the last entry of its chain.
 #[tactic(auto, unfolding(crate::specs::References::body_of))]
-pub fn body_of(dwarf: &Dwarf, e: usize) -> usize
+pub fn body_of(dwarf: &Dwarf, e: EntryNumber) -> EntryNumber
     requires { e < length dwarf.now.tree.entries }
     ensures found { result ≡ spec.body_of dwarf.now.tree e }
     ensures inside { result < length dwarf.now.tree.entries }
@@ -46,9 +47,9 @@ pub fn body_of(dwarf: &Dwarf, e: usize) -> usize
 pub(crate) fn parts_of(
     alloc: Global,
     dwarf: &Dwarf,
-    e: usize,
+    e: EntryNumber,
     role: Role,
-) -> Result<Vec<usize>, NoMemory>
+) -> Result<Vec<EntryNumber>, NoMemory>
     requires inside { e < length dwarf.now.tree.entries }
     requires role { role ≡ spec.role_of dwarf.now.tree e }
     ensures parts { IfOk result (λ list. list.items ≡ spec.parts_of dwarf.now.tree e) }
@@ -66,7 +67,7 @@ pub(crate) fn parts_of(
 pub(crate) fn is_variadic(
     alloc: Global,
     dwarf: &Dwarf,
-    e: usize,
+    e: EntryNumber,
     role: Role,
 ) -> Result<bool, NoMemory>
     requires inside { e < length dwarf.now.tree.entries }
@@ -84,7 +85,12 @@ pub(crate) fn is_variadic(
 
 /// The members among an entry's parts. A declaration has none.
 #[tactic(auto, unfolding(crate::specs::References::members_of))]
-pub fn members_among<'p>(dwarf: &Dwarf, e: usize, role: Role, parts: &'p [u32]) -> &'p [u32]
+pub fn members_among<'p>(
+    dwarf: &Dwarf,
+    e: EntryNumber,
+    role: Role,
+    parts: &'p [EntryNumber],
+) -> &'p [EntryNumber]
     requires inside { e < length dwarf.now.tree.entries }
     requires role { role ≡ spec.role_of dwarf.now.tree e }
     requires parts { parts.now ≡ spec.parts_of dwarf.now.tree e }
@@ -102,10 +108,10 @@ pub fn members_among<'p>(dwarf: &Dwarf, e: usize, role: Role, parts: &'p [u32]) 
 #[tactic(auto, unfolding(crate::specs::References::steps_of))]
 pub(crate) fn steps_among<'l>(
     dwarf: &Dwarf,
-    e: usize,
+    e: EntryNumber,
     role: Role,
-    types: &'l [Option<u32>],
-) -> &'l [Option<u32>]
+    types: &'l [Option<EntryNumber>],
+) -> &'l [Option<EntryNumber>]
     requires role { role ≡ spec.role_of dwarf.now.tree e }
     requires types { types.now ≡ spec.types_of dwarf.now.tree e }
     ensures { result.now ≡ spec.steps_of dwarf.now.tree e }

@@ -10,6 +10,7 @@ use abi_base::dwarf::{
 };
 use dwarf_entries::Dwarf;
 use dwarf_forms::Value;
+use dwarf_tree::EntryNumber;
 
 /// The role of an entry as a type.
 #[derive(Clone, Copy, Debug, PartialEq, Eq)]
@@ -79,7 +80,7 @@ fn is_signature(value: Option<Value>) -> bool
 
 /// Whether an entry refers by a signature to the definition of its type in a type unit.
 #[tactic(auto, unfolding(crate::specs::References::is_signed))]
-pub fn is_signed(dwarf: &Dwarf, e: usize) -> bool
+pub fn is_signed(dwarf: &Dwarf, e: EntryNumber) -> bool
     requires { e < length dwarf.now.tree.entries }
     ensures { result ≡ spec.is_signed dwarf.now.tree e }
 {
@@ -92,7 +93,7 @@ pub fn is_signed(dwarf: &Dwarf, e: usize) -> bool
 
 /// The role of an entry. A structure, a union or an enumeration with a signature stands for the type of that type unit.
 #[tactic(auto, unfolding(crate::specs::References::role_of))]
-pub fn role_of(dwarf: &Dwarf, e: usize) -> Role
+pub fn role_of(dwarf: &Dwarf, e: EntryNumber) -> Role
     requires { e < length dwarf.now.tree.entries }
     ensures { result ≡ spec.role_of dwarf.now.tree e }
 {

@@ -6,6 +6,7 @@ ghost use Rattle.type_reach.specs.Placement as spec;
 
 use crate::placement::bit_of;
 use dwarf_entries::Dwarf;
+use dwarf_tree::EntryNumber;
 
 /// An offset in bits from the start of the outermost type, and the number of types around it.
 #[derive(Clone, Copy, Debug)]
@@ -28,7 +29,7 @@ impl Start {
     }
 
     /// The offset of a member of the type that begins here. The member's type has a size in bytes.
-    pub fn later(&self, dwarf: &Dwarf, m: usize, size: u64) -> Start
+    pub fn later(&self, dwarf: &Dwarf, m: EntryNumber, size: u64) -> Start
         requires inside { m < length dwarf.now.tree.entries }
         requires depth { self.now.depth < depth_limit }
         ensures bit { result.bit ≡ self.now.bit +ℤ spec.bit_of dwarf.now m size }

@@ -8,6 +8,7 @@ use crate::facts::{Facts, VOID};
 use crate::reached_entries::ReachedEntries;
 use abi_base::NoMemory;
 use dwarf_entries::Dwarf;
+use dwarf_tree::EntryNumber;
 use std::alloc::Global;
 
 /// The facts of a type that its view needs. They take less than half of the memory of all its facts.
@@ -24,7 +25,7 @@ pub struct Summary {
     /// The explicit alignment in bytes, or 0.
     pub align: u64,
     /// The entry of its core, or None for void.
-    pub core: Option<usize>,
+    pub core: Option<EntryNumber>,
 }
 
 // The summary of a type's facts.
@@ -64,7 +65,7 @@ pub fn summary_by_number(
     found: &ReachedEntries,
     summaries: &[Summary],
     number: usize,
-    e: usize,
+    e: EntryNumber,
 ) -> Summary
     requires summaries { AreSummaries dwarf.now found.now summaries.now }
     requires at { slice_get found.now number ≡ Some e }
@@ -78,7 +79,7 @@ pub fn summary_at(
     dwarf: &Dwarf,
     found: &ReachedEntries,
     summaries: &[Summary],
-    ty: Option<usize>,
+    ty: Option<EntryNumber>,
 ) -> Summary
     requires summaries { AreSummaries dwarf.now found.now summaries.now }
     requires there { IfSome ty (λ e. Contains found.now e) }

@@ -13,77 +13,37 @@ use crate::role::{Role, role_of};
 use crate::rows::Rows;
 use abi_base::{Limit, NoMemory, taken};
 use dwarf_entries::Dwarf;
+use dwarf_tree::EntryNumber;
 use std::alloc::Global;
 
-/// For each found entry its parts, the types to which it leads, and whether it is a variadic function, by number. Positions take 32
-/// bits, since there are fewer than 2^32 entries.
+/// For each found entry its parts, the types to which it leads, and whether it is a variadic function, by number.
 #[derive(Drop)]
 pub struct TypeReferences {
-    parts: Rows<u32>,
-    types: Rows<Option<u32>>,
+    parts: Rows<EntryNumber>,
+    types: Rows<Option<EntryNumber>>,
     variadic: Vec<bool>,
-}
-
-// A type in 32 bits.
-#[inline]
-fn narrowed(dwarf: &Dwarf, ty: Option<usize>) -> Option<u32>
-    requires { IfSome ty (λ e. e < length dwarf.now.tree.entries) }
-    ensures { result ≡ ty }
-{
-    dwarf.known();
-    match ty {
-        Some(e) => Some(e as u32),
-        None => None,
-    }
-}
-
-/// A type that was stored in 32 bits.
-#[inline]
-pub fn widened(ty: Option<u32>) -> Option<usize>
-    ensures { result ≡ ty }
-{
-    match ty {
-        Some(e) => Some(e as usize),
-        None => None,
-    }
 }
 
 // An entry with its role, and the number of an earlier function that has the same parameters, if there is one.
 #[derive(Clone, Copy)]
 struct Visit {
-    e: usize,
+    e: EntryNumber,
     role: Role,
     same: Option<usize>,
-}
-
-// The parts of an entry.
-fn narrowed_parts(alloc: Global, dwarf: &Dwarf, e: usize, role: Role) -> Result<Vec<u32>, NoMemory>
-    requires inside { e < length dwarf.now.tree.entries }
-    requires role { role ≡ spec.role_of dwarf.now.tree e }
-    ensures parts { IfOk result (λ list. list.items ≡ spec.parts_of dwarf.now.tree e) }
-    ensures inside { IfOk result (λ list. All (λ c. c < length dwarf.now.tree.entries) list.items) }
-{
-    dwarf.known();
-    let parts = parts_of(alloc, dwarf, e, role)?;
-    let mut list = Vec::with_capacity(alloc, parts.len())?;
-    'parts: for k in 0..parts.len() {
-        list.push(parts[k] as u32)?;
-    }
-    Ok(list)
 }
 
 // The parts of an entry: a row that was made before, if there is one with the same.
 fn parts_row(
     alloc: Global,
     dwarf: &Dwarf,
-    rows: &Rows<u32>,
-    visit: Visit,
-) -> Result<Vec<u32>, NoMemory>
-    requires inside { visit.e < length dwarf.now.tree.entries }
-    requires role { visit.role ≡ spec.role_of dwarf.now.tree visit.e }
-    requires same { IfSome visit.same (λ k. slice_get rows.now k ≡ Some (spec.parts_of dwarf.now.tree visit.e)) }
-    requires same_inside { IfSome visit.same (λ k. All (λ c. c < length dwarf.now.tree.entries) (spec.parts_of dwarf.now.tree visit.e)) }
-    ensures parts { IfOk result (λ list. list.items ≡ spec.parts_of dwarf.now.tree visit.e) }
+    rows: &Rows<EntryNumber>,
+    visit: &Visit,
+) -> Result<Vec<EntryNumber>, NoMemory>
+    requires inside { visit.now.e < length dwarf.now.tree.entries }
+    requires role { visit.now.role ≡ spec.role_of dwarf.now.tree visit.now.e }
+    requires same { IfSome visit.now.same (λ k. slice_get rows.now k ≡ Some (spec.parts_of dwarf.now.tree visit.now.e)) }
+    requires same_inside { IfSome visit.now.same (λ k. All (λ c. c < length dwarf.now.tree.entries) (spec.parts_of dwarf.now.tree visit.now.e)) }
+    ensures parts { IfOk result (λ list. list.items ≡ spec.parts_of dwarf.now.tree visit.now.e) }
     ensures inside { IfOk result (λ list. All (λ c. c < length dwarf.now.tree.entries) list.items) }
 {
     match visit.same {
@@ -92,7 +52,7 @@ fn parts_row(
             list.extend_from_slice(rows.row(number))?;
             Ok(list)
         }
-        None => narrowed_parts(alloc, dwarf, visit.e, visit.role),
+        None => parts_of(alloc, dwarf, visit.e, visit.role),
     }
 }
 
@@ -101,12 +61,12 @@ fn variadic_row(
     alloc: Global,
     dwarf: &Dwarf,
     known: &[bool],
-    visit: Visit,
+    visit: &Visit,
 ) -> Result<bool, NoMemory>
-    requires inside { visit.e < length dwarf.now.tree.entries }
-    requires role { visit.role ≡ spec.role_of dwarf.now.tree visit.e }
-    requires same { IfSome visit.same (λ k. slice_get known.now k ≡ Some (views.is_variadic dwarf.now.tree visit.e)) }
-    ensures { IfOk result (λ further. further ≡ views.is_variadic dwarf.now.tree visit.e) }
+    requires inside { visit.now.e < length dwarf.now.tree.entries }
+    requires role { visit.now.role ≡ spec.role_of dwarf.now.tree visit.now.e }
+    requires same { IfSome visit.now.same (λ k. slice_get known.now k ≡ Some (views.is_variadic dwarf.now.tree visit.now.e)) }
+    ensures { IfOk result (λ further. further ≡ views.is_variadic dwarf.now.tree visit.now.e) }
 {
     match visit.same {
         Some(number) => Ok(known[number]),
@@ -118,8 +78,8 @@ fn variadic_row(
 #[tactic(auto, unfolding(crate::specs::References::own_types))]
 fn push_own(
     dwarf: &Dwarf,
-    types: &mut Vec<Option<u32>>,
-    e: usize,
+    types: &mut Vec<Option<EntryNumber>>,
+    e: EntryNumber,
     role: Role,
 ) -> Result<(), NoMemory>
     requires inside { e < length dwarf.now.tree.entries }
@@ -127,7 +87,7 @@ fn push_own(
     ensures { OnOk result (types.new.items ≡ types.old.items ++ own_types dwarf.now.tree e) }
 {
     if has_type(role) {
-        types.push(narrowed(dwarf, type_of(dwarf, e)))?;
+        types.push(type_of(dwarf, e))?;
     }
     Ok(())
 }
@@ -136,10 +96,10 @@ fn push_own(
 #[tactic(auto, unfolding(crate::specs::References::types_of))]
 fn fill_types(
     dwarf: &Dwarf,
-    types: &mut Vec<Option<u32>>,
-    e: usize,
+    types: &mut Vec<Option<EntryNumber>>,
+    e: EntryNumber,
     role: Role,
-    parts: &[u32],
+    parts: &[EntryNumber],
 ) -> Result<(), NoMemory>
     requires inside { e < length dwarf.now.tree.entries }
     requires role { role ≡ spec.role_of dwarf.now.tree e }
@@ -150,14 +110,14 @@ fn fill_types(
     types.clear();
     push_own(dwarf, types, e, role)?;
     'parts: for k in 0..parts.len() {
-        types.push(narrowed(dwarf, type_of(dwarf, parts[k] as usize)))?;
+        types.push(type_of(dwarf, parts[k]))?;
     }
     Ok(())
 }
 
-/// The parts and types of all found entries. Fails where they have more than `most_parts` parts in all: functions can share the
-/// parameters of one origin, so a small file can demand very many. What stands below an origin is looked up once for all functions that
-/// share it.
+/// The parts and types of all found entries. Fails if they have more than `most_parts` parts in all: functions can share the
+/// parameters of one origin, so a small file can have very many. The entries below an origin are looked up once for all functions
+/// that share it.
 pub fn type_references_of(
     alloc: Global,
     dwarf: &Dwarf,
@@ -177,12 +137,12 @@ pub fn type_references_of(
         let e = found.at(number);
         let role = role_of(dwarf, e);
         let origin = other_body(dwarf, e, role);
-        let same = origins.first_with(origin);
+        let same = origins.first_with(&origin);
         let visit = Visit { e, role, same };
-        let row: Vec<u32> = parts_row(alloc, dwarf, &parts, visit)?;
+        let row = parts_row(alloc, dwarf, &parts, &visit)?;
         left = taken(Limit::Members, left, row.len())?;
         fill_types(dwarf, &mut own_types, e, role, row.as_slice())?;
-        let further = variadic_row(alloc, dwarf, variadic.as_slice(), visit)?;
+        let further = variadic_row(alloc, dwarf, variadic.as_slice(), &visit)?;
         parts.push(row.as_slice())?;
         types.push(own_types.as_slice())?;
         variadic.push(further)?;
@@ -204,8 +164,8 @@ pub fn parts_at<'l>(
     found: &ReachedEntries,
     leads: &'l TypeReferences,
     number: usize,
-    e: usize,
-) -> &'l [u32]
+    e: EntryNumber,
+) -> &'l [EntryNumber]
     requires leads { AreTypeReferences dwarf.now.tree found.now leads.now }
     requires at { slice_get found.now number ≡ Some e }
     ensures parts { result.now ≡ spec.parts_of dwarf.now.tree e }
@@ -220,8 +180,8 @@ pub fn types_at<'l>(
     found: &ReachedEntries,
     leads: &'l TypeReferences,
     number: usize,
-    e: usize,
-) -> &'l [Option<u32>]
+    e: EntryNumber,
+) -> &'l [Option<EntryNumber>]
     requires leads { AreTypeReferences dwarf.now.tree found.now leads.now }
     requires at { slice_get found.now number ≡ Some e }
     ensures types { result.now ≡ spec.types_of dwarf.now.tree e }
@@ -236,7 +196,7 @@ pub fn variadic_at(
     found: &ReachedEntries,
     leads: &TypeReferences,
     number: usize,
-    e: usize,
+    e: EntryNumber,
 ) -> bool
     requires leads { AreTypeReferences dwarf.now.tree found.now leads.now }
     requires at { slice_get found.now number ≡ Some e }
@@ -246,43 +206,43 @@ pub fn variadic_at(
 }
 
 /// An entry's own type, from the types to which it leads.
-pub fn own_type(dwarf: &Dwarf, e: usize, types: &[Option<u32>]) -> Option<usize>
+pub fn own_type(dwarf: &Dwarf, e: EntryNumber, types: &[Option<EntryNumber>]) -> Option<EntryNumber>
     requires types { types.now ≡ spec.types_of dwarf.now.tree e }
     requires own { spec.has_type (spec.role_of dwarf.now.tree e) ≡ true }
     ensures { result ≡ spec.type_of dwarf.now.tree e }
 {
-    widened(types[0])
+    types[0]
 }
 
 /// The type of a part, from the types to which its entry leads.
 pub fn part_type(
     dwarf: &Dwarf,
-    e: usize,
-    parts: &[u32],
-    types: &[Option<u32>],
+    e: EntryNumber,
+    parts: &[EntryNumber],
+    types: &[Option<EntryNumber>],
     k: usize,
-) -> Option<usize>
+) -> Option<EntryNumber>
     requires parts { parts.now ≡ spec.parts_of dwarf.now.tree e }
     requires types { types.now ≡ spec.types_of dwarf.now.tree e }
     requires inside { k < length parts.now }
     ensures { result ≡ spec.type_of dwarf.now.tree (slice_index_or parts.now k 0) }
 {
     let own = types.len() - parts.len();
-    widened(types[own + k])
+    types[own + k]
 }
 
 /// The type of a member, from the types to which its aggregate leads. A structure or a union has no type of its own.
 pub fn member_type(
     dwarf: &Dwarf,
-    e: usize,
-    members: &[u32],
-    types: &[Option<u32>],
+    e: EntryNumber,
+    members: &[EntryNumber],
+    types: &[Option<EntryNumber>],
     k: usize,
-) -> Option<usize>
+) -> Option<EntryNumber>
     requires members { members.now ≡ spec.members_of dwarf.now.tree e }
     requires types { types.now ≡ spec.types_of dwarf.now.tree e }
     requires inside { k < length members.now }
     ensures { result ≡ spec.type_of dwarf.now.tree (slice_index_or members.now k 0) }
 {
-    widened(types[k])
+    types[k]
 }

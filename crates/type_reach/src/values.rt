@@ -6,6 +6,7 @@ use abi_base::dwarf::DW_OP_plus_uconst;
 use abi_base::uleb;
 use dwarf_entries::Dwarf;
 use dwarf_forms::Value;
+use dwarf_tree::EntryNumber;
 
 /// A nonnegative constant (DWARF 5, section 7.5.5 "Classes and Forms", class constant), or None for any other value.
 pub fn natural_of(value: Option<Value>) -> Option<u64>
@@ -72,7 +73,7 @@ pub fn place_of(dwarf: &Dwarf, value: Option<Value>) -> Option<u64>
 
 /// Whether an entry has an attribute, its own or inherited.
 #[tactic(auto, unfolding(crate::specs::Values::is_there))]
-pub fn is_there(dwarf: &Dwarf, e: usize, name: u64) -> bool
+pub fn is_there(dwarf: &Dwarf, e: EntryNumber, name: u64) -> bool
     requires { e < length dwarf.now.tree.entries }
     ensures { result ≡ spec.is_there dwarf.now.tree e name }
 {
@@ -81,7 +82,7 @@ pub fn is_there(dwarf: &Dwarf, e: usize, name: u64) -> bool
 
 /// The number in an attribute of an entry, its own or inherited, or 0 where it has none.
 #[tactic(auto, unfolding(crate::specs::Values::number_at))]
-pub fn number_at(dwarf: &Dwarf, e: usize, name: u64) -> u64
+pub fn number_at(dwarf: &Dwarf, e: EntryNumber, name: u64) -> u64
     requires { e < length dwarf.now.tree.entries }
     ensures { result ≡ spec.number_at dwarf.now.tree e name }
 {

@@ -6,6 +6,7 @@ ghost use Rattle.type_reach.specs.VisitedEntries.{by_offset};
 
 use crate::reached_entries::ReachedEntries;
 use abi_base::NoMemory;
+use dwarf_tree::EntryNumber;
 use std::alloc::Global;
 use std::marker::Model;
 
@@ -14,7 +15,7 @@ use std::marker::Model;
 pub(crate) struct VisitedEntries {
     // For each entry of the tree, whether it was met.
     marks: Vec<bool>,
-    entries: Vec<u32>,
+    entries: Vec<EntryNumber>,
 }
 
 impl Model for VisitedEntries {
@@ -49,11 +50,11 @@ impl VisitedEntries {
     }
 
     /// The entry with this number in order of discovery.
-    pub fn at(&self, number: usize) -> usize
+    pub fn at(&self, number: usize) -> EntryNumber
         requires { number < length self.now.entries }
         ensures { slice_get self.now.entries number ≡ Some result }
     {
-        self.entries[number] as usize
+        self.entries[number]
     }
 
     /// The list has no duplicates. Does nothing.
@@ -64,20 +65,21 @@ impl VisitedEntries {
     }
 
     /// Adds an entry if it is new.
-    pub fn add(&mut self, e: usize) -> Result<(), NoMemory>
+    pub fn add(&mut self, e: EntryNumber) -> Result<(), NoMemory>
         requires { e < self.old.room }
         ensures entries { OnOk result (self.new.entries ≡ with_entry self.old.entries e) }
         ensures room { OnOk result (self.new.room ≡ self.old.room) }
     {
-        if !self.marks[e] {
-            self.entries.push(e as u32)?;
-            self.marks[e] = true;
+        let place = e.index();
+        if !self.marks[place] {
+            self.entries.push(e)?;
+            self.marks[place] = true;
         }
         Ok(())
     }
 
     /// Adds the entry of a type, if there is one and it is new.
-    pub fn add_type(&mut self, ty: Option<usize>) -> Result<(), NoMemory>
+    pub fn add_type(&mut self, ty: Option<EntryNumber>) -> Result<(), NoMemory>
         requires { IfSome ty (λ e. e < self.old.room) }
         ensures entries { OnOk result (self.new.entries ≡ with_type self.old.entries ty) }
         ensures room { OnOk result (self.new.room ≡ self.old.room) }

@@ -15,11 +15,17 @@ use crate::role::{Role, role_of};
 use crate::visited_entries::VisitedEntries;
 use abi_base::NoMemory;
 use dwarf_entries::Dwarf;
+use dwarf_tree::EntryNumber;
 use std::alloc::Global;
 
 // Adds an entry's own type.
 #[tactic(auto, unfolding(crate::specs::References::own_types, crate::specs::Reached::with_types))]
-fn add_own(dwarf: &Dwarf, met: &mut VisitedEntries, e: usize, role: Role) -> Result<(), NoMemory>
+fn add_own(
+    dwarf: &Dwarf,
+    met: &mut VisitedEntries,
+    e: EntryNumber,
+    role: Role,
+) -> Result<(), NoMemory>
     requires inside { e < length dwarf.now.tree.entries }
     requires role { role ≡ spec.role_of dwarf.now.tree e }
     requires room { met.old.room ≡ length dwarf.now.tree.entries }
@@ -33,7 +39,7 @@ fn add_own(dwarf: &Dwarf, met: &mut VisitedEntries, e: usize, role: Role) -> Res
 }
 
 // Adds the types of these parts.
-fn add_types(dwarf: &Dwarf, met: &mut VisitedEntries, parts: &[usize]) -> Result<(), NoMemory>
+fn add_types(dwarf: &Dwarf, met: &mut VisitedEntries, parts: &[EntryNumber]) -> Result<(), NoMemory>
     requires inside { All (λ c. c < length dwarf.now.tree.entries) parts.now }
     requires room { met.old.room ≡ length dwarf.now.tree.entries }
     ensures entries { OnOk result (met.new.entries ≡ with_types met.old.entries (map (spec.type_of dwarf.now.tree) parts.now)) }
@@ -52,7 +58,7 @@ fn expand(
     dwarf: &Dwarf,
     met: &mut VisitedEntries,
     origins: &mut Origins,
-    e: usize,
+    e: EntryNumber,
 ) -> Result<(), NoMemory>
     requires inside { e < length dwarf.now.tree.entries }
     requires room { met.old.room ≡ length dwarf.now.tree.entries }
@@ -64,17 +70,17 @@ fn expand(
     let role = role_of(dwarf, e);
     add_own(dwarf, met, e, role)?;
     let origin = other_body(dwarf, e, role);
-    if origins.first_with(origin).is_some() {
+    if origins.first_with(&origin).is_some() {
         return Ok(());
     }
     let parts = parts_of(alloc, dwarf, e, role)?;
     add_types(dwarf, met, parts.as_slice())?;
-    origins.keep(origin, e)?;
+    origins.keep(origin, e.index())?;
     Ok(())
 }
 
 // Adds the roots.
-fn add_roots(met: &mut VisitedEntries, roots: &[usize]) -> Result<(), NoMemory>
+fn add_roots(met: &mut VisitedEntries, roots: &[EntryNumber]) -> Result<(), NoMemory>
     requires { All (λ root. root < met.old.room) roots.now }
     ensures entries { OnOk result (met.new.entries ≡ with_types met.old.entries (map (λ e. Some e) roots.now)) }
     ensures room { OnOk result (met.new.room ≡ met.old.room) }
@@ -86,7 +92,7 @@ fn add_roots(met: &mut VisitedEntries, roots: &[usize]) -> Result<(), NoMemory>
 }
 
 // Exactly the entries that the roots reach, in order of discovery.
-fn walk(alloc: Global, dwarf: &Dwarf, roots: &[usize]) -> Result<VisitedEntries, NoMemory>
+fn walk(alloc: Global, dwarf: &Dwarf, roots: &[EntryNumber]) -> Result<VisitedEntries, NoMemory>
     requires { All (λ root. root < length dwarf.now.tree.entries) roots.now }
     ensures walk { IfOk result (λ met. IsWalk dwarf.now.tree roots.now met.entries) }
     ensures room { IfOk result (λ met. met.room ≡ length dwarf.now.tree.entries) }
@@ -107,7 +113,11 @@ fn walk(alloc: Global, dwarf: &Dwarf, roots: &[usize]) -> Result<VisitedEntries,
 }
 
 /// Exactly the entries that the roots reach, by offset.
-pub fn reached(alloc: Global, dwarf: &Dwarf, roots: &[usize]) -> Result<ReachedEntries, NoMemory>
+pub fn reached(
+    alloc: Global,
+    dwarf: &Dwarf,
+    roots: &[EntryNumber],
+) -> Result<ReachedEntries, NoMemory>
     requires { All (λ root. root < length dwarf.now.tree.entries) roots.now }
     ensures list { IfOk result (λ found. found ≡ reached_of dwarf.now.tree roots.now) }
     ensures walk { IfOk result (λ found. IsWalk dwarf.now.tree roots.now found) }

@@ -6,7 +6,7 @@ ghost use Rattle.dwarf_forms.specs.abbreviations.LeastBytes.{least_bytes_in, lea
 ghost use Rattle.dwarf_forms.specs.abbreviations.Places.{Placed};
 ghost use Rattle.dwarf_forms.specs.abbreviations.Places as spec;
 
-use crate::abbreviations::Abbrev;
+use crate::abbreviations::{Abbrev, AbbreviationCode};
 use abi_base::{List, NoMemory};
 use std::alloc::Global;
 use std::collections::BTreeMap;
@@ -44,14 +44,14 @@ impl Model for Table {
 }
 
 // The position of a code in a table with the codes 1, 2, 3, ..
-fn own_place(code: u64) -> usize
+fn own_place(code: AbbreviationCode) -> usize
     ensures { result ≡ code - 1 }
 {
-    code.saturating_sub(1) as usize
+    code.get().saturating_sub(1) as usize
 }
 
 // The abbreviation with a code, if it is at the position of the code.
-fn at_own_place(abbrevs: &[Abbrev], code: u64) -> Option<&Abbrev>
+fn at_own_place(abbrevs: &[Abbrev], code: AbbreviationCode) -> Option<&Abbrev>
     ensures { option_copied result ≡ spec.at_own_place abbrevs.now code }
 {
     match abbrevs.get(own_place(code)) {
@@ -65,11 +65,11 @@ fn at_own_place(abbrevs: &[Abbrev], code: u64) -> Option<&Abbrev>
 fn at_kept_place<'a>(
     abbrevs: &'a [Abbrev],
     elsewhere: &BTreeMap<u64, usize>,
-    code: u64,
+    code: AbbreviationCode,
 ) -> Option<&'a Abbrev>
     ensures { option_copied result ≡ spec.at_kept_place abbrevs.now elsewhere.now code }
 {
-    match elsewhere.get(&code) {
+    match elsewhere.get(&code.get()) {
         Some(place) => abbrevs.get(*place),
         None => None,
     }
@@ -110,7 +110,7 @@ impl Table {
     {
         let place = self.abbrevs.as_slice().len();
         if own_place(made.code) != place {
-            self.elsewhere.insert(made.code, place)?;
+            self.elsewhere.insert(made.code.get(), place)?;
         }
         let size = least_bytes(&made);
         match self.abbrevs.push(made) {
@@ -128,7 +128,7 @@ impl Table {
 
     /// The abbreviation with a code, or None exactly where the table has none. Looks at two positions at most.
     #[inline]
-    pub fn find(&self, code: u64) -> Option<&Abbrev>
+    pub fn find(&self, code: AbbreviationCode) -> Option<&Abbrev>
         ensures { option_copied result ≡ abbrev_of self.now code }
     {
         let abbrevs = self.abbrevs.as_slice();

@@ -8,7 +8,8 @@ ghost use Rattle.abi_base.specs.Leb.{uleb_at};
 ghost use Rattle.dwarf_forms.specs.abbreviations.Abbrevs.{plain_pair, short_number_of, short_pair_at, spec_step, specs_at, specs_run, abbrev_step, table_run, children_of, implicit_at, ReadsAbbrev};
 
 use crate::abbreviations::kept::Table;
-use crate::abbreviations::{Abbrev, ShortPair, Spec};
+use crate::abbreviations::{Abbrev, AbbreviationCode, ShortPair, Spec};
+use crate::offsets::DebugAbbrevOffset;
 use abi_base::dwarf::{DW_CHILDREN_no, DW_CHILDREN_yes, DW_FORM_implicit_const};
 use abi_base::{Fault, FaultKind, List, NoMemory, Refusal, sleb, uleb};
 use std::alloc::Global;
@@ -172,7 +173,7 @@ fn children_in(bytes: &[u8], at: usize) -> Option<bool>
 fn has_code(seen: &Table, code: u64) -> bool
     ensures { result ≡ list_any (λ a. a.code == code) seen.now }
 {
-    seen.find(code).is_some()
+    seen.find(AbbreviationCode::new(code)).is_some()
 }
 
 // The next abbreviation and the offset after it, or None at the table's end.
@@ -210,10 +211,10 @@ fn next_abbrev(
     };
     Ok(Some((
         Abbrev {
-            code,
+            code: AbbreviationCode::new(code),
             tag,
             children,
-            specs_from: specs_from as u64,
+            specs_from: DebugAbbrevOffset::new(specs_from as u64),
             specs,
         },
         after,
@@ -227,12 +228,12 @@ fn next_abbrev(
 /// too large, the byte for children is neither 0 nor 1, only one number of a specification is 0, or an earlier abbreviation has its
 /// code.
 #[tactic(auto, using(crate::proofs::abbreviations_lemmas::AbbrevsLemmas::table_more, crate::proofs::abbreviations_lemmas::AbbrevsLemmas::table_end, crate::proofs::abbreviations_lemmas::AbbrevsLemmas::abbrev_after, crate::proofs::abbreviations_lemmas::AbbrevsLemmas::abbrev_is_new), unfolding(crate::specs::abbreviations::Abbrevs::table_run))]
-pub fn table(alloc: Global, bytes: &[u8], at: u64) -> Result<Table, Refusal>
+pub fn table(alloc: Global, bytes: &[u8], at: DebugAbbrevOffset) -> Result<Table, Refusal>
     ensures judged { Judges result (table_run bytes.now at).end }
     ensures abbrevs { IfOk result (λ t. t ≡ (table_run bytes.now at).items) }
 {
     let mut table = Table::new(alloc);
-    let mut place = at as usize;
+    let mut place = at.get() as usize;
     loop {
         match next_abbrev(alloc, bytes, place, &table) {
             Ok(Some((made, after))) => {

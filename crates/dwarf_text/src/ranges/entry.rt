@@ -10,6 +10,7 @@ ghost use Rattle.dwarf_text.specs.ranges.EntrySteps.{seen_entry, seen_step};
 use crate::ranges::constants::{BASE_SELECTION, DW_RLE_end_of_list};
 use crate::ranges::layout::{Field, Layout, Role, layout_by_kind};
 use abi_base::{Fault, FaultKind, table_address, u64_at, uint_at, uleb};
+use dwarf_forms::DebugInfoOffset;
 
 // The sizes in bytes of an entry kind and of an address.
 const KIND_SIZE: usize = 1;
@@ -26,7 +27,7 @@ pub(crate) struct Source<'a> {
     // the base of the unit's part of it
     pub(crate) addr_base: Option<u64>,
     // the offset of the debugging information entry with the list
-    pub(crate) entry: u64,
+    pub(crate) entry: DebugInfoOffset,
 }
 
 // An entry of a list: the start of its range, or None where it selects a base; then the base and the offset after it.
@@ -54,7 +55,7 @@ impl<'a> Source<'a> {
     {
         Fault {
             kind: FaultKind::Ranges,
-            at: self.entry,
+            at: self.entry.get(),
         }
     }
 
@@ -69,7 +70,7 @@ impl<'a> Source<'a> {
                 Some(address) => Ok((address, after)),
                 None => Err(Fault {
                     kind: FaultKind::Index,
-                    at: self.entry,
+                    at: self.entry.get(),
                 }),
             },
             None => Err(self.malformed()),

@@ -7,7 +7,7 @@ use crate::Bases;
 use crate::ranges::entry::Source;
 use crate::ranges::lists::ListAt;
 use abi_base::{Effort, Fault, FaultKind, NoMemory, table_offset};
-use dwarf_forms::Sections;
+use dwarf_forms::{DebugInfoOffset, Sections};
 
 // The offset of the list with this index: the entry of the unit's offset table, plus the unit's base.
 fn place_of(rnglists: &[u8], base: Option<u64>, index: u64) -> Option<u64>
@@ -76,7 +76,7 @@ pub fn first_address(
     list: ListAt,
     bases: &Bases,
     sections: &Sections,
-    entry: u64,
+    entry: DebugInfoOffset,
 ) -> Result<Option<u64>, Fault>
     ensures { result ≡ first_address_of sections.now.rnglists.now bases.now.rnglists sections.now.ranges.now sections.now.addr.now bases.now.addr bases.now.low entry list }
 {
@@ -92,7 +92,7 @@ pub fn first_address(
             Some(place) => first_in_list(&lists, place, bases.low),
             None => Err(Fault {
                 kind: FaultKind::Index,
-                at: entry,
+                at: entry.get(),
             }),
         },
         ListAt::Pairs(place) => first_in_pairs(
@@ -149,7 +149,7 @@ pub fn spend_first(
         bytes: sections.rnglists,
         addr: sections.addr,
         addr_base: bases.addr,
-        entry: 0,
+        entry: DebugInfoOffset::new(0),
     };
     match list {
         ListAt::Offset(place) => spend_entries(&lists, false, place, effort),

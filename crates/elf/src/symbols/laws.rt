@@ -10,7 +10,7 @@ use crate::constants::{
     STT_NOTYPE, STT_OBJECT, STT_TLS, STV_DEFAULT, STV_PROTECTED,
 };
 
-/// The constants for symbols have their numbers of the System V gABI, "Symbol Table", and those of GNU that of GNU.
+/// Each constant for symbols has its number in the System V gABI, "Symbol Table", or in the GNU extensions.
 pub fn symbols_have_their_numbers()
     ensures bindings { (STB_LOCAL ≡ stb_local)
         × (STB_GLOBAL ≡ stb_global)

@@ -30,7 +30,7 @@ fn push_unit(alloc: Global, text: &mut String, unit: &Unit<'_>) -> Result<(), Re
     let mut left = entries(unit);
     'list: loop {
         match left.next_outline(alloc) {
-            Ok(Some(entry)) => push_line(text, entry.offset(), entry.depth(), entry.tag())?,
+            Ok(Some(entry)) => push_line(text, entry.offset().get(), entry.depth(), entry.tag())?,
             Ok(None) => return Ok(()),
             Err(refused) => return Err(refused),
         }

@@ -1,9 +1,19 @@
 -- What is kept of breaks, the keys of what is kept, and its rows.
-use Rattle.std.proofs.Common.{◌≡◌, ◌<◌, ◌≤◌, ℕ, ◌+◌, Bool, true, false, not, cond, List, [], ◌∷◌, ◌++◌, map, take, length, get_or, slice_get, Some, Vec, refl, sym, ◌∙◌, ap, inl, inr, append_assoc}
+use Rattle.std.proofs.Common.{◌≡◌, ◌<◌, ◌≤◌, ℕ, ◌+◌, Bool, true, false, not, cond, List, [], ◌∷◌, ◌++◌, map, take, length, get_or, slice_get, Some, Vec, refl, sym, ◌∙◌, ap, subst, inl, inr, append_assoc}
+use Rattle.std.specs.Prelude.{◌==◌, ◌&&◌, ◌||◌}
+use Rattle.std.specs.BTreeSet.{BTreeSet, IsEmpty, IsUnchanged, contains}
+use Rattle.std.specs.Bool.{OnFalse}
+use Rattle.std.specs.Cmp.{both_tied, unsigned_ties, nat_eq_equiv}
+use Rattle.std.specs.Cmp.Lexicographic.{slice_cmp, lists_ties}
+use Rattle.std.specs.Ordering.{nat_cmp, ordering_then, is_eq}
+use Rattle.std.specs.Str.{bytes_eq}
 use Rattle.std.specs.declared.alloc.Global.{Global}
+use Rattle.std.specs.declared.cmp.Ordering.{Ordering}
 use Rattle.std.specs.List.{list_any}
 use Rattle.std.proofs.lemmas.Bool.{cases_Bool}
 use Rattle.std.proofs.lemmas.List.{take_more, take_all, map-append}
+use Rattle.std.proofs.lemmas.Cmp.{nat_list_eq_equiv}
+use Rattle.std.proofs.lemmas.List.Folds.{list_any-append}
 use Rattle.std.proofs.lemmas.List.Elements.{Contains-get_or}
 use Rattle.std.proofs.lemmas.Option.{slice_get-get_or}
 use Rattle.abi_base.proofs.lemmas.Bools.{not_is_true, not_is_false}
@@ -34,9 +44,34 @@ use Rattle.pair_rules.proofs.lemmas.Lists.{firsts_after-more}
 abbrev pub Key : Type 0
 Key = ℕ × ℕ × ℕ × Vec ℕ Global
 
--- the test of a key
-abbrev pub at_key : Key → Key → Bool
-at_key k q = same_key (plain_key k) (plain_key q)
+-- the keys in a search tree, and their order there
+abbrev pub Keys : Type 0
+Keys = BTreeSet Key
+
+abbrev pub key_cmp : Key → Key → Ordering
+key_cmp k q = ordering_then (ordering_then (ordering_then (nat_cmp k.0 q.0) (nat_cmp k.1 q.1)) (nat_cmp k.2 q.2)) (slice_cmp nat_cmp k.3.items q.3.items)
+
+-- keys that compare equal are the same
+key_tied : (k q : Key) → same_key (plain_key k) (plain_key q) ≡ is_eq (key_cmp k q)
+key_tied k q =
+    both_tied (k.0 == q.0 && k.1 == q.1 && k.2 == q.2) (bytes_eq k.3.items q.3.items) (ordering_then (ordering_then (nat_cmp k.0 q.0) (nat_cmp k.1 q.1)) (nat_cmp k.2 q.2)) (slice_cmp nat_cmp k.3.items q.3.items)
+    (both_tied (k.0 == q.0 && k.1 == q.1) (k.2 == q.2) (ordering_then (nat_cmp k.0 q.0) (nat_cmp k.1 q.1)) (nat_cmp k.2 q.2)
+    (both_tied (k.0 == q.0) (k.1 == q.1) (nat_cmp k.0 q.0) (nat_cmp k.1 q.1) (unsigned_ties k.0 q.0) (unsigned_ties k.1 q.1)) (unsigned_ties k.2 q.2))
+    (lists_ties nat_cmp unsigned_ties k.3.items q.3.items)
+
+same_key-turned : (k q : PlainKey) → same_key k q ≡ same_key q k
+same_key-turned k q =
+    ap (λ (b : Bool). b && k.1 == q.1 && k.2 == q.2 && bytes_eq k.3 q.3) (nat_eq_equiv.symm k.0 q.0)
+    ∙ ap (λ (b : Bool). q.0 == k.0 && b && k.2 == q.2 && bytes_eq k.3 q.3) (nat_eq_equiv.symm k.1 q.1)
+    ∙ ap (λ (b : Bool). q.0 == k.0 && q.1 == k.1 && b && bytes_eq k.3 q.3) (nat_eq_equiv.symm k.2 q.2)
+    ∙ ap (λ (b : Bool). q.0 == k.0 && q.1 == k.1 && q.2 == k.2 && b) (nat_list_eq_equiv.symm k.3 q.3)
+
+-- whether a key is in a set after one is put in that may be it
+put : (b c : Bool) → cond b true c ≡ (c || (b || false))
+put true true = refl
+put true false = refl
+put false true = refl
+put false false = refl
 
 -- what an index out of a list of breaks gives past its end
 abbrev pub no_break : ℕ × Broken
@@ -69,22 +104,20 @@ module _ (t : Task) (vs : List Visit) where
     | inr other ↦ let other' = same q ∙ other in rw (other, other') (list_any-same f g same told)
   ]
 
-  -- a key is among the keys exactly where what it stands for has the row of what was kept
-  any_key : (p : ℕ × Broken) (key : Key) (keys : List Key) (told : List (ℕ × Broken)) → map plain_key keys ≡ map told_key told → plain_key key ≡ told_key p → list_any (at_key key) keys ≡ list_any (same_told t vs p) told
-  any_key p key keys told all is =
-      list_any-map (same_key (plain_key key)) plain_key keys ∙ ap (list_any (same_key (plain_key key))) all ∙ ap (λ k. list_any (same_key k) (map told_key told)) is
-      ∙ sym (list_any-map (same_key (told_key p)) told_key told) ∙ list_any-same (λ q. same_key (told_key p) (told_key q)) (same_told t vs p) (λ q. sym (same_told-key p q)) told
+  -- whether one of these breaks has a key
+  abbrev pub is_key_of : Key → List (ℕ × Broken) → Bool
+  is_key_of k told = list_any (λ (p : ℕ × Broken). same_key (plain_key k) (told_key p)) told
 
   -- what is kept of the first breaks, and the keys of that
-  pub record IsTelling (breaks : List (ℕ × Broken)) (i : ℕ) (keys : List Key) (kept : List (ℕ × Broken)) : Type 0 where
+  pub record IsTelling (breaks : List (ℕ × Broken)) (i : ℕ) (keys : Keys) (kept : List (ℕ × Broken)) : Type 0 where
     pub are : kept ≡ firsts (same_told t vs) (take i breaks)
-    pub keyed : map plain_key keys ≡ map told_key kept
+    pub keyed : (q : Key) → contains key_cmp keys q ≡ is_key_of q kept
 
-  pub IsTelling-none : (breaks : List (ℕ × Broken)) → IsTelling breaks 0 [] []
+  pub IsTelling-none : (breaks : List (ℕ × Broken)) (keys : Keys) → IsEmpty keys → IsTelling breaks 0 keys []
   unfolding firsts_after
-  IsTelling-none breaks = record { are = refl; keyed = refl }
+  IsTelling-none breaks keys empty = record { are = refl; keyed = λ q. ap (λ (ks : List Key). list_any (λ k. is_eq (key_cmp q k)) ks) empty }
 
-  module _ (breaks : List (ℕ × Broken)) (i : ℕ) (keys : List Key) (kept : List (ℕ × Broken)) (key : Key) (was : IsTelling breaks i keys kept) (inside : i < length breaks) (key_is : plain_key key ≡ told_key (get_or breaks i no_break)) where
+  module _ (breaks : List (ℕ × Broken)) (i : ℕ) (keys : Keys) (kept : List (ℕ × Broken)) (key : Key) (was : IsTelling breaks i keys kept) (inside : i < length breaks) (key_is : plain_key key ≡ told_key (get_or breaks i no_break)) where
     p : ℕ × Broken
     p = get_or breaks i no_break
 
@@ -94,24 +127,37 @@ module _ (t : Task) (vs : List Visit) where
         ap (firsts (same_told t vs)) (take_more breaks i no_break inside)
         ∙ firsts_after-more (same_told t vs) [] (take i breaks) p ∙ ap (λ xs. with_first (same_told t vs) xs p) (sym was.are)
 
-    pub IsTelling-more : (more : List Key) (added : Bool) → added ≡ not (list_any (at_key key) keys) → added ≡ true → more ≡ cond (list_any (at_key key) keys) keys (keys ++ key ∷ []) → IsTelling breaks (i + 1) more (kept ++ get_or breaks i no_break ∷ [])
+    -- a key is in the set exactly where what was kept has the row of this break
+    there : contains key_cmp keys key ≡ list_any (same_told t vs p) kept
     unfolding p
-    IsTelling-more more added is_added yes' inserted =
-        let new : list_any (at_key key) keys ≡ false = not_is_true (list_any (at_key key) keys) (sym is_added ∙ yes') in
-        let pushed : more ≡ keys ++ key ∷ [] = inserted ∙ ap (λ b. cond b keys (keys ++ key ∷ [])) new in
-        let other = sym (any_key p key keys kept was.keyed key_is) ∙ new in
-        record {
-          are = sym (grown ∙ ap (λ b. cond b kept (kept ++ p ∷ [])) other);
-          keyed = ap (map plain_key) pushed ∙ map-append plain_key keys (key ∷ []) ∙ ap (λ ks. ks ++ plain_key key ∷ []) was.keyed ∙ ap (λ k. map told_key kept ++ k ∷ []) key_is ∙ sym (map-append told_key kept (p ∷ []));
-        }
+    there =
+        was.keyed key ∙ ap (λ (k : PlainKey). list_any (λ (q : ℕ × Broken). same_key k (told_key q)) kept) key_is
+        ∙ list_any-same (λ q. same_key (told_key p) (told_key q)) (same_told t vs p) (λ q. sym (same_told-key p q)) kept
 
-    pub IsTelling-still : (more : List Key) (added : Bool) → added ≡ not (list_any (at_key key) keys) → added ≡ false → more ≡ cond (list_any (at_key key) keys) keys (keys ++ key ∷ []) → IsTelling breaks (i + 1) more kept
+    -- the other keys are in it as before
+    keyed_more : (more : Keys) → ((q : Key) → contains key_cmp more q ≡ cond (is_eq (key_cmp key q)) true (contains key_cmp keys q)) → (q : Key) → contains key_cmp more q ≡ is_key_of q (kept ++ p ∷ [])
     unfolding p
-    IsTelling-still more added is_added no' inserted =
-        let there : list_any (at_key key) keys ≡ true = not_is_false (list_any (at_key key) keys) (sym is_added ∙ no') in
-        let still : more ≡ keys = inserted ∙ ap (λ b. cond b keys (keys ++ key ∷ [])) there in
-        let same = sym (any_key p key keys kept was.keyed key_is) ∙ there in
-        record { are = sym (grown ∙ ap (λ b. cond b kept (kept ++ p ∷ [])) same); keyed = ap (map plain_key) still ∙ was.keyed }
+    keyed_more more puts q =
+        let turned : is_eq (key_cmp key q) ≡ same_key (plain_key q) (told_key p) = sym (key_tied key q) ∙ same_key-turned (plain_key key) (plain_key q) ∙ ap (same_key (plain_key q)) key_is in
+        puts q ∙ ap (λ (b : Bool). cond b true (contains key_cmp keys q)) turned ∙ ap (λ (b : Bool). cond (same_key (plain_key q) (told_key p)) true b) (was.keyed q)
+        ∙ put (same_key (plain_key q) (told_key p)) (is_key_of q kept) ∙ sym (list_any-append (λ (p : ℕ × Broken). same_key (plain_key q) (told_key p)) kept (p ∷ []))
+
+    pub IsTelling-more : (more : Keys) (added : Bool) → added ≡ not (contains key_cmp keys key) → added ≡ true → ((q : Key) → contains key_cmp more q ≡ cond (is_eq (key_cmp key q)) true (contains key_cmp keys q)) → IsTelling breaks (i + 1) more (kept ++ get_or breaks i no_break ∷ [])
+    unfolding p
+    IsTelling-more more added is_added yes' puts =
+        let other = sym there ∙ not_is_true (contains key_cmp keys key) (sym is_added ∙ yes') in
+        record { are = sym (grown ∙ ap (λ b. cond b kept (kept ++ p ∷ [])) other); keyed = keyed_more more puts }
+
+    pub IsTelling-still : (more : Keys) (added : Bool) → added ≡ not (contains key_cmp keys key) → added ≡ false → OnFalse added (IsUnchanged keys more) → IsTelling breaks (i + 1) more kept
+    unfolding p
+    IsTelling-still more added is_added no' stays =
+        let P : Bool → Type 0 = λ b. OnFalse b (IsUnchanged keys more) in
+        let still : more.keys ≡ keys.keys = subst P no' stays in
+        let same = sym there ∙ not_is_false (contains key_cmp keys key) (sym is_added ∙ no') in
+        record {
+          are = sym (grown ∙ ap (λ b. cond b kept (kept ++ p ∷ [])) same);
+          keyed = λ q. ap (λ (ks : List Key). list_any (λ k. is_eq (key_cmp q k)) ks) still ∙ was.keyed q;
+        }
 
 -- ---- rows
 

@@ -18,12 +18,12 @@ use crate::reports::row_list::RowList;
 use abi_base::{List, NoMemory};
 use abi_types::laws::rules_have_places_of_their_own;
 use abi_types::{Index, NewIx, OldIx, View};
-use indexmap::IndexSet;
 use pair_explorer::laws::parents_spell_paths;
 use pair_explorer::{Explored, Visits, route_to};
 use pair_rules::Broken;
 use report::{Row, Trail, type_detail, type_row};
 use std::alloc::Global;
+use std::collections::BTreeSet;
 
 // The detail of the row about a break of two types.
 fn detail_of(
@@ -67,14 +67,15 @@ fn told(
     requires { AreReadable (sides_of ground.now) explored.now.visits explored.now.breaks }
     ensures { IfOk result (λ told. told ≡ told_breaks (task_of (sides_of ground.now)) explored.now.visits explored.now.breaks) }
 {
-    let mut keys: IndexSet<(u8, usize, usize, Vec<u8>)> = IndexSet::new(alloc);
+    // A file chooses the texts of the keys, so they stand in a search tree: no choice makes one costlier than others.
+    let mut keys: BTreeSet<(u8, usize, usize, Vec<u8>)> = BTreeSet::new(alloc);
     let mut told = List::new(alloc);
     let mut room = Room::beside(ground);
     let breaks = explored.breaks.as_slice();
     for found in breaks {
         let key = key_at(alloc, ground, &explored.visits, found.0, &found.1)?;
         room.take_letters(key.3.len())?;
-        let (_, is_new) = keys.insert_full(key)?;
+        let is_new = keys.insert(key)?;
         if is_new {
             told.push(*found)?;
         }

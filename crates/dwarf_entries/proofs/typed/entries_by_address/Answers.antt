@@ -10,7 +10,7 @@ pub loop-e-preserved : goal.loop-e-preserved
 loop-e-preserved c =
     let lt : c.loop-e.e < length c.args.source.now.tree.entries = omega arith in
     keep_more c.loop-e.places c.keep_first.new.places (is_typed_at c.args.source.now) c.loop-e.e (length c.args.source.now.tree.entries) c.typed_address-address.result
-    c.loop-e.invariant lt c.typed_address-address.ensures c.in_ok-keep_first.ensures
+    c.loop-e.invariant lt (rw c.new-entry.ensures at c.typed_address-address.ensures) (rw c.new-entry.ensures at c.in_ok-keep_first.ensures)
 
 pub returns : goal.returns
 returns c =

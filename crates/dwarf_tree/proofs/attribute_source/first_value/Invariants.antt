@@ -4,7 +4,7 @@ use Rattle.dwarf_tree.specs.Keeping.{values_of, left_values}
 use Rattle.dwarf_tree.proofs.attribute_source.first_value.Given as goal
 
 abbrev pub invariant-pairs : goal.invariant-pairs
-invariant-pairs l = attribute_of (left_values l.info l.abbrevs l.head l.kept.offset l.pairs l.at) l.name ≡ attribute_of (values_of l.info l.abbrevs l.head l.kept) l.name
+invariant-pairs l = attribute_of (left_values l.asked.info.now l.asked.abbrevs.now l.asked.head.now l.kept.offset l.pairs l.at) l.name ≡ attribute_of (values_of l.asked.info.now l.asked.abbrevs.now l.asked.head.now l.kept) l.name
 
 abbrev pub decreases-pairs : goal.decreases-pairs
-decreases-pairs l = length l.abbrevs - l.pairs
+decreases-pairs l = length l.asked.abbrevs.now - l.pairs

@@ -12,8 +12,8 @@ returns c =
     let slot = c.in_ok-slot.slot in
     let after = c.in_ok-after.after in
     let begins : uleb_at (take head.end info) c.args.asked.now.stored.offset ≡ Some (c.in_ok-after.field-0-0, after) =
-    sym c.in_ok-after.ensures.found in
+    sym (rw c.get-end.ensures at c.in_ok-after.ensures.found) in
     let form : slot.form ≡ c.args.form = omega (arith, c.from.ensures, c.if-from-form.false) in
     spelled_short info c.args.asked.now.abbrevs.now c.args.asked.now.slots.now head c.args.asked.now.shape.now c.args.asked.now.stored c.args.name c.in_ok-after.field-0-0 after slot
     c.requires.inside c.requires.shape c.in_ok-slot.ensures.found c.in_ok-slot.ensures.asked c.args.form form c.requires.told begins c.u32_at.result
-    (c.u32_at.ensures ∙ ap (λ (n : ℕ). number_at 4 (take head.end info) (after + n)) c.from-2.ensures)
+    ((rw c.get-end.ensures at c.u32_at.ensures) ∙ ap (λ (n : ℕ). number_at 4 (take head.end info) (after + n)) c.from-2.ensures)

@@ -15,8 +15,8 @@ returns c =
     let slot = c.in-Some.slot in
     let after = c.in-Some-uleb.after in
     let begins : uleb_at (take head.end info) c.args.asked.now.stored.offset ≡ Some (c.in-Some-uleb.field-0-0, after) =
-    sym c.uleb.ensures.found ∙ c.in-Some-uleb.is in
-    let room : after + slot.from ≤ head.end = omega (arith, c.if-at-head.false, c.from.ensures) in
+    sym (rw c.get-end.ensures at c.uleb.ensures.found) ∙ c.in-Some-uleb.is in
+    let room : after + slot.from ≤ head.end = omega (arith, c.if-at-end.false, c.get-end.ensures, c.from.ensures) in
     c.value_in.ensures
     ∙ ap (λ (s : Spec). value_read (value_at s.form s.implicit head.offset head.end c.shaped-kept.result.offset info (after + c.from.result))) c.plain.ensures
     ∙ ap (λ (k : EntryHead). value_read (value_at slot.form (pos 0) head.offset head.end k.offset info (after + c.from.result))) c.shaped-kept.ensures

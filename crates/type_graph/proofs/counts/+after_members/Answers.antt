@@ -2,6 +2,7 @@
 use Rattle.std.proofs.Common.{◌≡◌, ◌∙◌, ℕ, None, get_or, sym, ap, subst, arith}
 use Rattle.std.specs.Prelude.{Contains}
 use Rattle.std.specs.Option.{option_copied}
+use Rattle.std.proofs.lemmas.List.{get_or_default}
 use Rattle.dwarf_entries.specs.Chains.{name_of}
 use Rattle.type_reach.specs.Facts.{facts_of}
 use Rattle.type_reach.specs.Summaries.{summary_of}
@@ -48,7 +49,9 @@ members-preserved t c =
     let has = subst (λ xs. Contains xs m) c.members_among-members.ensures.members (at-place items c.members.k c.members-test.true) in
     let of_type = c.summary_at.ensures ∙ ap (λ r. summary_of (facts_of d r)) c.member_type-to.ensures in
     let shallow = member_shallow d laws c.args.types.now.found.now c.requires.closed c.requires.summaries.shallow c.args.c m c.requires.there has in
-    let no_name : name_of d m ≡ None = sym c.name_of.ensures ∙ ap option_copied c.in_default.is in
+    let read = c.index-members-k.result in
+    let is : m ≡ read = get_or_default items c.members.k 0 read c.members-test.true ∙ sym c.index-members-k.is in
+    let no_name : name_of d m ≡ None = ap (name_of d) is ∙ sym c.name_of.ensures ∙ ap option_copied c.in_default.is in
     let was = c.members.invariant in
     elim c.match-replacing.branch [
       | in-Some-replacing+in_ok-rest-in-Some-replacing w ↦

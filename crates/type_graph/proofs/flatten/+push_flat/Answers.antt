@@ -2,7 +2,7 @@
 use Rattle.std.proofs.Common.{◌≡◌, ◌∙◌, ℕ, None, Some, List, map, get_or, refl, sym, ap, subst, arith, ◌++◌}
 use Rattle.std.specs.Prelude.{Contains, ◌+ℤ◌}
 use Rattle.std.specs.Option.{option_copied}
-use Rattle.std.proofs.lemmas.List.{append-nil}
+use Rattle.std.proofs.lemmas.List.{append-nil, get_or_default}
 use Rattle.dwarf_entries.specs.Chains.{name_of}
 use Rattle.type_reach.specs.declared.summaries.Summary.{Summary}
 use Rattle.type_reach.specs.Placement.{bit_of}
@@ -59,8 +59,13 @@ members-preserved t c =
     let has = subst (λ xs. Contains xs m) c.members_among-members.ensures.members (at-place items c.members.k c.members-test.true) in
     let of_type = c.summary_at-of_type.ensures ∙ ap (λ r. summary_of (facts_of d r)) c.member_type-to.ensures in
     let shallow = member_shallow d laws c.args.types.now.found.now c.requires.closed c.requires.summaries.shallow c.args.c m c.requires.there has in
-    let no_name : name_of d m ≡ None = sym c.name_of.ensures ∙ ap option_copied c.in_default.is in
-    let bit : c.later-start.result.bit ≡ c.args.base.bit +ℤ declared_bit d m = c.later-start.ensures.bit ∙ ap (λ (x : Summary). c.args.base.bit +ℤ bit_of d m x.size) of_type in
+    let read = c.index-members-k.result in
+    let is : m ≡ read = get_or_default items c.members.k 0 read c.members-test.true ∙ sym c.index-members-k.is in
+    let no_name : name_of d m ≡ None = ap (name_of d) is ∙ sym c.name_of.ensures ∙ ap option_copied c.in_default.is in
+    let bit : c.later-start.result.bit ≡ c.args.base.bit +ℤ declared_bit d m =
+    c.later-start.ensures.bit
+    ∙ ap (λ (e : ℕ). c.args.base.bit +ℤ bit_of d e c.summary_at-of_type.result.size) (sym is)
+    ∙ ap (λ (x : Summary). c.args.base.bit +ℤ bit_of d m x.size) of_type in
     let put : List Flat = plain_members c.members.out.items in
     let before : List Flat = plain_members c.args.out.now.items in
     elim c.match-replacing.branch [

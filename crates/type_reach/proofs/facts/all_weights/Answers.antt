@@ -1,6 +1,6 @@
 use Rattle.std.proofs.Common.{arith, sym, map, List}
 use Rattle.type_reach.specs.declared.facts.Facts.{Facts}
-use Rattle.type_reach.specs.Facts.{total, weight_in, nothing}
+use Rattle.type_reach.specs.Facts.{total, weight_in}
 use Rattle.type_reach.proofs.LoopLemmas.{drop-down, drop-none}
 use Rattle.type_reach.proofs.facts.all_weights.Goals as goal
 
@@ -11,5 +11,5 @@ down-init c = record { is = sym (drop-none (λ (xs : List Facts). total (map wei
 pub down-preserved : goal.down-preserved
 unfolding total
 down-preserved c =
-    let e = drop-down (λ (xs : List Facts). total (map weight_in xs)) c.args.facts.now c.down.k nothing c.down-test.true c.down.invariant.place in
+    let e = drop-down (λ (xs : List Facts). total (map weight_in xs)) c.args.facts.now c.down.k c.index-facts-k.result c.down-test.true c.down.invariant.place c.index-facts-k.is in
     record { is = omega (arith, e, c.down.invariant.is, c.saturating_add-all.ensures); place = omega (arith, c.down.invariant.place) }

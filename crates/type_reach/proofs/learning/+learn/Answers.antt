@@ -8,7 +8,7 @@ use Rattle.abi_base.specs.Limits.{depth_limit}
 use Rattle.type_reach.specs.declared.facts.Facts.{Facts}
 use Rattle.type_reach.specs.References.{Type_}
 use Rattle.type_reach.specs.ByValue.{StepsOn}
-use Rattle.type_reach.specs.Facts.{facts_from, facts_of, IsSpanNear}
+use Rattle.type_reach.specs.Facts.{AreFacts, facts_from, facts_of, IsSpanNear}
 use Rattle.type_reach.proofs.ByValueLemmas.{StepsOn-none, StepsOn-more, StepsOn-fewer}
 use Rattle.type_reach.proofs.FactLemmas.{facts_of-void, rank_of, rank-most, rank-leads, rank-bound, known_there, step_there, step_at, facts-more, IsLearned-end, AreFacts-more, void_ends}
 use Rattle.type_reach.proofs.LearnLemmas.{IfNone-weaker}
@@ -78,8 +78,8 @@ learn-requires t c =
     let there = subst (λ o. IfSome o (λ x. Contains c.args.types.now.found.now x)) c.in-Some.is c.requires.there in
     let items = c.steps_among-steps.result.now in
     let lt : c.steps.k < length items = c.steps-test.true in
-    let s = c.widened.result in
-    let has = step_at d.tree c.in-Some.e items c.steps.k s c.steps_among-steps.ensures lt (c.widened.ensures ∙ get_or_default items c.steps.k None s lt) in
+    let s = c.index-steps-k.result in
+    let has = step_at d.tree c.in-Some.e items c.steps.k s c.steps_among-steps.ensures lt c.index-steps-k.is in
     let some : 0 < c.args.budget = omega (arith, c.if-budget-eq0.false) in
     (omega (arith, c.decreases, some), (c.requires.closed, (c.requires.leads, (c.steps.invariant.known, (c.steps.invariant.len, (step_there d.tree c.args.types.now.found.now c.in-Some.e s c.requires.closed there has, omega (arith, c.requires.budget)))))))
 
@@ -88,8 +88,8 @@ returns-in-None-2-clause-many t c =
     let d = c.args.types.now.dwarf.now in
     let items = c.steps_among-steps.result.now in
     let lt : c.steps.k < length items = c.steps-test.true in
-    let s = c.widened.result in
-    let has = step_at d.tree c.in-Some.e items c.steps.k s c.steps_among-steps.ensures lt (c.widened.ensures ∙ get_or_default items c.steps.k None s lt) in
+    let s = c.index-steps-k.result in
+    let has = step_at d.tree c.in-Some.e items c.steps.k s c.steps_among-steps.ensures lt c.index-steps-k.is in
     let on = subst (λ o. IfNone o (StepsOn d.tree (c.args.budget - 1 + 1) s)) c.in-None-2.is c.in_ok-one.ensures.many in
     let is : suc (c.args.budget - 1 + 1) ≡ c.args.budget + 1 = omega (arith, c.if-budget-eq0.false) in
     subst (StepsOn d.tree (c.args.budget + 1)) (sym c.in-Some.is) (subst (λ n. StepsOn d.tree n (Some c.in-Some.e)) is (StepsOn-more d.tree (c.args.budget - 1 + 1) (Some c.in-Some.e) s has on))
@@ -100,8 +100,8 @@ steps-preserved t c =
     let items = c.steps_among-steps.result.now in
     let k = c.steps.k in
     let lt : k < length items = c.steps-test.true in
-    let s = c.widened.result in
-    let read : s ≡ get_or items k s = c.widened.ensures ∙ get_or_default items k None s lt in
+    let s = c.index-steps-k.result in
+    let read : s ≡ get_or items k s = c.index-steps-k.is in
     let was = c.steps.invariant in
     let is = subst (λ o. IfSome o (λ x. x ≡ facts_of d s)) c.in-Some-2.is c.in_ok-one.ensures.facts in
     let few = subst (λ o. IfSome o (λ x. StepsOn d.tree (c.args.budget - 1 + 1) s → ⊥)) c.in-Some-2.is c.in_ok-one.ensures.few in
@@ -128,7 +128,7 @@ returns-clause-known t c =
     let d = c.args.types.now.dwarf.now in
     let at = c.number_of-number.ensures in
     let made = IsLearned-end d c.args.budget c.in-Some.e c.steps.k c.steps_among-steps.result.now c.steps.of_steps.items c.in_ok-made.made c.requires.budget c.steps_among-steps.ensures c.steps-test.false c.steps.invariant.facts c.steps.invariant.few (c.in_ok-made.ensures.is ∙ ap (facts_from d (Some c.in-Some.e)) c.as_slice.ensures.value) in
-    AreFacts-more d c.args.types.now.found.now c.steps.known.items c.number_of-number.result c.in-Some.e c.in_ok-made.made c.steps.invariant.known at made.is made.shallow c.in_ok-made.ensures.near
+    subst (AreFacts d c.args.types.now.found.now) (sym c.note.ensures) (AreFacts-more d c.args.types.now.found.now c.steps.known.items c.number_of-number.result c.in-Some.e c.in_ok-made.made c.steps.invariant.known at made.is made.shallow c.in_ok-made.ensures.near)
 
 pub returns-clause-facts : goal.returns-clause-facts
 returns-clause-facts t c =

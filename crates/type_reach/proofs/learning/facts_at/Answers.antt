@@ -1,7 +1,7 @@
 use Rattle.std.proofs.Common.{◌≡◌, ◌∙◌, sym, ap, subst, Some}
 use Rattle.std.specs.Prelude.{Contains, IfSome, IfNone, slice_get}
 use Rattle.std.proofs.lemmas.Option.{get_or_from_slice_get}
-use Rattle.type_reach.specs.Facts.{nothing, facts_of}
+use Rattle.type_reach.specs.Facts.{facts_of}
 use Rattle.type_reach.proofs.FactLemmas.{facts_of-void}
 use Rattle.type_reach.proofs.learning.facts_at.Goals as goal
 
@@ -13,7 +13,7 @@ returns c =
     let d = c.args.dwarf.now in
     let e = c.in-Some.e in
     let at = subst (λ o. IfSome o (λ i. slice_get c.args.found.now i ≡ Some e)) c.in-Some-number.is c.number.ensures.at in
-    get_or_from_slice_get c.args.facts.now c.in-Some-number.number (facts_of d (Some e)) nothing (c.requires.facts.each c.in-Some-number.number e at) ∙ ap (facts_of d) (sym c.in-Some.is)
+    c.index-facts-number.is ∙ get_or_from_slice_get c.args.facts.now c.in-Some-number.number (facts_of d (Some e)) c.index-facts-number.result (c.requires.facts.each c.in-Some-number.number e at) ∙ ap (facts_of d) (sym c.in-Some.is)
 
 pub unreachable-requires : goal.unreachable-requires
 unreachable-requires c =

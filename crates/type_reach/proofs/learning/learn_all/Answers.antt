@@ -1,4 +1,4 @@
-use Rattle.std.proofs.Common.{subst, Some, ℕ}
+use Rattle.std.proofs.Common.{◌∙◌, subst, Some, ℕ}
 use Rattle.std.specs.Prelude.{Contains, IfSome, IfNone}
 use Rattle.type_reach.specs.ByValue.{IsTooDeep}
 use Rattle.type_reach.specs.Facts.{IsFirstTooDeep}
@@ -15,7 +15,7 @@ returns-in-Some-clause-judged c = λ roots inside walk.
     let t = c.args.dwarf.now.tree in
     let found = c.args.found.now in
     let first = subst (λ o. IfSome o (λ e. IsFirstTooDeep t found e)) c.in-Some.is c.in_ok-e.ensures.first in
-    depth-some t roots found c.in-Some.e c.offset.result inside walk (c.requires.closed.inside c.in-Some.e first.there) first c.offset.ensures
+    depth-some t roots found c.in-Some.e c.get.result inside walk (c.requires.closed.inside c.in-Some.e first.there) first (c.get.ensures ∙ c.offset.ensures)
 
 pub returns-clause-judged : goal.returns-clause-judged
 returns-clause-judged c = λ roots inside walk.

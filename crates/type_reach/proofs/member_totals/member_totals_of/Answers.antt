@@ -1,9 +1,9 @@
 -- One member more, from the last one to the first.
-use Rattle.std.proofs.Common.{◌+◌, ◌-◌, ◌≤◌, ◌∙◌, ℕ, List, map, get_or, sym, ap, subst, arith}
+use Rattle.std.proofs.Common.{◌+◌, ◌-◌, ◌≤◌, ◌<◌, ◌∙◌, ℕ, List, map, sym, ap, subst, arith}
 use Rattle.std.specs.Prelude.{◌||◌}
 use Rattle.std.specs.List.{list_any}
 use Rattle.type_reach.specs.declared.facts.Facts.{Facts}
-use Rattle.type_reach.specs.Facts.{most, spread, joined, member_align, member_span, member_beyond, nothing}
+use Rattle.type_reach.specs.Facts.{most, spread, joined, member_align, member_span, member_beyond}
 use Rattle.type_reach.proofs.NearLemmas.{NearLow, NearHigh, joined-low, joined-high, low-more, high-more}
 use Rattle.type_reach.proofs.ZipLemmas.{zip-down, zip-none}
 use Rattle.type_reach.proofs.member_totals.member_totals_of.Goals as goal
@@ -31,12 +31,12 @@ down-preserved c =
     let members = c.args.members.now in
     let types = c.args.of_types.now in
     let was = c.down.invariant in
-    let m : ℕ = get_or members (c.down.k - 1) 0 in
-    let x : Facts = get_or types (c.down.k - 1) nothing in
-    let aligns = zip-down (λ (zs : List (ℕ × Facts)). most (map (member_align d) zs)) members types c.down.k 0 nothing c.down-test.true was.members was.types in
-    let spans = zip-down (λ (zs : List (ℕ × Facts)). spread (map (member_span d) zs)) members types c.down.k 0 nothing c.down-test.true was.members was.types in
-    let beyonds = zip-down (λ (zs : List (ℕ × Facts)). list_any (member_beyond d) zs) members types c.down.k 0 nothing c.down-test.true was.members was.types in
-    let rank = c.requires.ranks (c.down.k - 1) nothing (omega (arith, c.down-test.true, was.types)) in
+    let m = c.index-members-k.result in
+    let x = c.index-of_types-k.result in
+    let aligns = zip-down (λ (zs : List (ℕ × Facts)). most (map (member_align d) zs)) members types c.down.k m x c.down-test.true was.members was.types c.index-members-k.is c.index-of_types-k.is in
+    let spans = zip-down (λ (zs : List (ℕ × Facts)). spread (map (member_span d) zs)) members types c.down.k m x c.down-test.true was.members was.types c.index-members-k.is c.index-of_types-k.is in
+    let beyonds = zip-down (λ (zs : List (ℕ × Facts)). list_any (member_beyond d) zs) members types c.down.k m x c.down-test.true was.members was.types c.index-members-k.is c.index-of_types-k.is in
+    let rank = subst (λ (y : Facts). y.rank < c.args.rank) (sym c.index-of_types-k.is) (c.requires.ranks (c.down.k - 1) x (omega (arith, c.down-test.true, was.types))) in
     let le : x.rank + 2 ≤ c.args.rank + 1 = omega (arith, rank) in
     record {
       align = omega (arith, aligns, was.align, c.max-align.ensures, c.member_align.ensures);

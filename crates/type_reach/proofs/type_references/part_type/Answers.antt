@@ -1,4 +1,4 @@
-use Rattle.std.proofs.Common.{◌≡◌, ◌<◌, ◌+◌, ◌-◌, ◌∙◌, None, get_or, length, sym, ap, arith}
+use Rattle.std.proofs.Common.{◌≡◌, ◌<◌, ◌+◌, ◌-◌, ◌∙◌, get_or, length, sym, ap, arith}
 use Rattle.type_reach.specs.References.{type_of, own_types, types_of, parts_of}
 use Rattle.type_reach.proofs.LeadLemmas.{types-count, type-of-part}
 use Rattle.type_reach.proofs.type_references.part_type.Goals as goal
@@ -13,11 +13,12 @@ pub returns : goal.returns
 returns c =
     let t = c.args.dwarf.now.tree in
     let e = c.args.e in
+    let o = c.index-types-own.result in
     let at = length c.args.types.now - length c.args.parts.now + c.args.k in
     let is : at ≡ length (own_types t e) + c.args.k = omega (arith, ap length c.requires.types, ap length c.requires.parts, types-count t e) in
     let lt : c.args.k < length (parts_of t e) = omega (arith, ap length c.requires.parts, c.requires.inside) in
-    c.widened.ensures
-    ∙ ap (λ xs. get_or xs at None) c.requires.types
-    ∙ ap (λ n. get_or (types_of t e) n None) is
-    ∙ type-of-part t e c.args.k None lt
+    c.index-types-own.is
+    ∙ ap (λ xs. get_or xs at o) c.requires.types
+    ∙ ap (λ n. get_or (types_of t e) n o) is
+    ∙ type-of-part t e c.args.k o lt
     ∙ ap (λ xs. type_of t (get_or xs c.args.k 0)) (sym c.requires.parts)

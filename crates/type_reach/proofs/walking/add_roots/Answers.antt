@@ -1,5 +1,4 @@
-use Rattle.std.proofs.Common.{◌∙◌, Some, map, get_or}
-use Rattle.std.proofs.lemmas.List.{get_or_default}
+use Rattle.std.proofs.Common.{◌∙◌, Some, map}
 use Rattle.type_reach.specs.Reached.{with_types}
 use Rattle.type_reach.proofs.GrowLemmas.{with_types-step, with_types-end}
 use Rattle.type_reach.proofs.walking.add_roots.Goals as goal
@@ -9,7 +8,7 @@ roots-preserved c =
     let roots = c.args.roots.now in
     let k = c.roots.k in
     record {
-      entries = with_types-step (λ e. Some e) c.roots.met.entries c.add.new.self.entries roots k (get_or roots k 0) (with_types c.args.met.now.entries (map (λ e. Some e) roots)) c.roots-test.true (get_or_default roots k 0 (get_or roots k 0) c.roots-test.true) c.in_ok-add.ensures.entries c.roots.invariant.entries;
+      entries = with_types-step (λ e. Some e) c.roots.met.entries c.add.new.self.entries roots k c.index-roots-k.result (with_types c.args.met.now.entries (map (λ e. Some e) roots)) c.roots-test.true c.index-roots-k.is c.in_ok-add.ensures.entries c.roots.invariant.entries;
       room = c.in_ok-add.ensures.room ∙ c.roots.invariant.room;
     }
 

@@ -1,5 +1,4 @@
-use Rattle.std.proofs.Common.{◌∙◌, ap, map, get_or}
-use Rattle.std.proofs.lemmas.List.{get_or_default}
+use Rattle.std.proofs.Common.{◌∙◌, ap, map}
 use Rattle.type_reach.specs.References.{type_of}
 use Rattle.type_reach.specs.Reached.{with_type, with_types}
 use Rattle.type_reach.proofs.GrowLemmas.{with_types-step, with_types-end}
@@ -11,7 +10,7 @@ parts-preserved c =
     let parts = c.args.parts.now in
     let k = c.parts.k in
     record {
-      entries = with_types-step (type_of t) c.parts.met.entries c.add_type.new.self.entries parts k (get_or parts k 0) (with_types c.args.met.now.entries (map (type_of t) parts)) c.parts-test.true (get_or_default parts k 0 (get_or parts k 0) c.parts-test.true) (c.in_ok-add_type.ensures.entries ∙ ap (with_type c.parts.met.entries) c.type_of.ensures.found) c.parts.invariant.entries;
+      entries = with_types-step (type_of t) c.parts.met.entries c.add_type.new.self.entries parts k c.index-parts-k.result (with_types c.args.met.now.entries (map (type_of t) parts)) c.parts-test.true c.index-parts-k.is (c.in_ok-add_type.ensures.entries ∙ ap (with_type c.parts.met.entries) c.type_of.ensures.found) c.parts.invariant.entries;
       room = c.in_ok-add_type.ensures.room ∙ c.parts.invariant.room;
     }
 

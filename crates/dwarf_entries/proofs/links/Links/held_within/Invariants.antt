@@ -7,4 +7,4 @@ use Rattle.dwarf_entries.proofs.links.Links.held_within.Given as goal
 abbrev pub invariant-chain : goal.invariant-chain
 invariant-chain l =
     (l.at < length l.self.entries)
-    × (find (λ f. is_some (own_of l.self f l.name)) (rest_of l.self (l.entries - l.followed) l.at) ≡ find (λ f. is_some (own_of l.self f l.name)) (rest_of l.self l.entries l.e))
+    × (find (λ f. is_some (own_of l.self f l.name)) (rest_of l.self (l.entries - l.followed) l.at) ≡ find (λ f. is_some (own_of l.self f l.name)) (rest_of l.self l.entries l.fn.e))

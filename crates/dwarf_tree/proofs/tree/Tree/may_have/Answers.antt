@@ -19,7 +19,7 @@ returns c none =
     let stored = c.index-stored.result.now in
     let shape = c.index.result.now in
     let there : c.args.e < length (plain_entries shapes decode entries) = subst (λ (t : PlainTree). c.args.e < length t.entries) (sym c.self.view_is) c.requires in
-    let is : shape ≡ get_or shapes (get_or entries c.args.e stored).shape shape = c.index.ensures ∙ ap (λ (x : EntryRecord). get_or shapes x.shape shape) c.index-stored.ensures in
+    let is : shape ≡ get_or shapes (get_or entries c.args.e stored).shape shape = c.index.ensures ∙ ap (λ (x : EntryRecord). get_or shapes x.shape shape) (rw c.index-place.ensures at c.index-stored.ensures) in
     sym (asked_not info abbrevs units shapes c.self.inside.slots.items entries c.args.e c.args.name stored shape (omega (arith, there, length-map entries (plain_stored shapes decode))) c.self.invariant.inside
     (ap (λ (s : AbbreviationLayout). s.names / 2 ^ bit_of c.args.name % 2 == 1) (sym is) ∙ sym c.may_have.ensures ∙ none)
     ∙ ap (λ (t : PlainTree). own_of t c.args.e c.args.name) c.self.view_is)

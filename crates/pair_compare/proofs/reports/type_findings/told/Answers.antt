@@ -7,7 +7,7 @@ use Rattle.pair_compare.proofs.reports.type_findings.told.Goals as goal
 use Rattle.pair_compare.proofs.reports.type_findings.told.Goals.{then-is_new+in_ok-push, else-is_new}
 
 pub loop-found-init : goal.loop-found-init
-loop-found-init c = rw (c.new-keys.ensures.empty, c.new-told.ensures) (IsTelling-none (task_of (sides_of c.args.ground.now)) c.args.explored.now.visits c.as_slice-breaks.result.now)
+loop-found-init c = rw c.new-told.ensures (IsTelling-none (task_of (sides_of c.args.ground.now)) c.args.explored.now.visits c.as_slice-breaks.result.now c.new-keys.result c.new-keys.ensures.empty)
 
 pub key_at-requires : goal.key_at-requires
 key_at-requires c =
@@ -21,9 +21,9 @@ loop-found-preserved c =
     let breaks = c.as_slice-breaks.result.now in
     elim c.if-is_new.branch [
       | then-is_new+in_ok-push w ↦
-          rw (w.told-is, w.in_ok-push.ensures.ok) (IsTelling-more t vs breaks c.loop-found.found-index c.loop-found.keys.keys c.loop-found.told c.in_ok-key.key c.loop-found.invariant c.loop-found-test.true c.in_ok-key.ensures
-          c.insert_full.new.self.keys c.in_ok-is_new.is_new c.in_ok-is_new.ensures.added w.if-is_new.true c.in_ok-is_new.ensures.keys)
+          rw (w.told-is, w.in_ok-push.ensures.ok) (IsTelling-more t vs breaks c.loop-found.found-index c.loop-found.keys c.loop-found.told c.in_ok-key.key c.loop-found.invariant c.loop-found-test.true c.in_ok-key.ensures
+          c.insert.new.self c.in_ok-is_new.is_new c.in_ok-is_new.ensures.added w.if-is_new.true c.in_ok-is_new.ensures.updates.0)
       | else-is_new w ↦
-          rw w.told-is (IsTelling-still t vs breaks c.loop-found.found-index c.loop-found.keys.keys c.loop-found.told c.in_ok-key.key c.loop-found.invariant c.loop-found-test.true c.in_ok-key.ensures
-          c.insert_full.new.self.keys c.in_ok-is_new.is_new c.in_ok-is_new.ensures.added w.if-is_new.false c.in_ok-is_new.ensures.keys)
+          rw w.told-is (IsTelling-still t vs breaks c.loop-found.found-index c.loop-found.keys c.loop-found.told c.in_ok-key.key c.loop-found.invariant c.loop-found-test.true c.in_ok-key.ensures
+          c.insert.new.self c.in_ok-is_new.is_new c.in_ok-is_new.ensures.added w.if-is_new.false c.in_ok-is_new.ensures.unchanged)
     ]

@@ -5,4 +5,4 @@ use Rattle.pair_compare.proofs.reports_lemmas.ToldLemmas.{IsTelling}
 use Rattle.pair_compare.proofs.reports.type_findings.told.Given as goal
 
 abbrev pub invariant-loop-found : goal.invariant-loop-found
-invariant-loop-found l = IsTelling (task_of (sides_of l.ground)) l.explored.visits l.breaks l.found-index l.keys.keys l.told
+invariant-loop-found l = IsTelling (task_of (sides_of l.ground)) l.explored.visits l.breaks l.found-index l.keys l.told

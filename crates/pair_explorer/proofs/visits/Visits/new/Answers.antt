@@ -1,6 +1,6 @@
--- Neither triples nor parents.
-use Rattle.pair_explorer.proofs.Keyed.{visits_of-empty}
+-- Nothing is known, and nothing was visited.
+use Rattle.pair_explorer.proofs.Keyed.{AreKnown-none}
 use Rattle.pair_explorer.proofs.visits.Visits.new.Goals as goal
 
-pub returns : goal.returns
-returns c = visits_of-empty c.new.result.keys c.new-2.result.items c.new.ensures.empty c.new-2.ensures.items
+pub invariant_of-result : goal.invariant_of-result
+invariant_of-result c = AreKnown-none c.new-2.result c.new.result.items c.new-2.ensures.empty c.new.ensures.items

@@ -1,6 +1,6 @@
 -- The class is split in two.
 use Rattle.std.proofs.Common.{ap, ◌∙◌}
-use Rattle.type_classes.proofs.BlockSplits.{cutting_by, cutting-split}
+use Rattle.type_classes.proofs.BlockCuts.{cutting_by, cutting-split}
 use Rattle.type_classes.proofs.blocks.Blocks.cut.Goals as goal
 
 pub returns : goal.returns

@@ -11,7 +11,7 @@ pub marks-preserved : goal.marks-preserved
 marks-preserved c =
     let marks = c.args.marks.now in
     elim c.if-marks-e.branch [
-      | then-marks-e+in_ok-push-2 w ↦ rw (w.entries-is, w.in_ok-push-2.ensures.items, c.marks.invariant) (sym (places-marked marks c.marks.e w.if-marks-e.true))
+      | then-marks-e+in_ok-push-2 w ↦ rw (w.entries-is, w.in_ok-push-2.ensures.items, w.new.ensures, c.marks.invariant) (sym (places-marked marks c.marks.e w.if-marks-e.true))
       | else-marks-e w ↦ rw (w.entries-is, c.marks.invariant) (sym (places-passed marks c.marks.e w.if-marks-e.false))
     ]
 

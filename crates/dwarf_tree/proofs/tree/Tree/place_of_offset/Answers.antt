@@ -4,7 +4,7 @@ use Rattle.dwarf_tree.specs.Trees.{PlainTree, entry_of}
 use Rattle.dwarf_tree.specs.Keeping.{Ascend, decoder}
 use Rattle.dwarf_tree.proofs.OrderLemmas.{ascends}
 use Rattle.dwarf_tree.proofs.Places.{found_kept}
-use Rattle.dwarf_tree.proofs.tree.Tree.find.Goals as goal
+use Rattle.dwarf_tree.proofs.tree.Tree.place_of_offset.Goals as goal
 
 pub returns-clause-found : goal.returns-clause-found
 returns-clause-found c =
