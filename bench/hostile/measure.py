@@ -21,6 +21,8 @@ SECONDS_A_MEGABYTE = 10
 SECONDS_BESIDE = 0.2
 # Shorter runs do not show how the time grows.
 SHORT = 0.08
+# Yes or accepted, no or refused, unreadable, and out of memory. Another status says that the program did not judge the files.
+JUDGED = ("0", "1", "2", "4")
 
 
 @dataclass(frozen=True)
@@ -57,8 +59,10 @@ class Row:
         """The bounds that the kind exceeds."""
         found = []
         growth = self.growth()
-        if growth is not None and growth > MOST_GROWTH or self.runs[1].status.startswith("signal"):
+        if growth is not None and growth > MOST_GROWTH:
             found.append("growth")
+        if any(run.status not in JUDGED for run in self.runs):
+            found.append("status")
         if any(run.seconds > SECONDS_A_MEGABYTE * size / 1e6 + SECONDS_BESIDE for run, size in zip(self.runs, self.sizes)):
             found.append("time")
         if any(run.memory > BYTES_A_BYTE * size + BYTES_BESIDE for run, size in zip(self.runs, self.sizes)):

@@ -92,6 +92,6 @@ def long_members(count: int) -> Case:
 
 KINDS = [
     Kind("moved_members", "rings of n and n + 1 typedefs of a structure of n members, each at another place", moved_members, 50),
-    Kind("long_members", "rings of n and n + 1 typedefs of a structure of 63 members with names of 4 n bytes", long_members, 32),
+    Kind("long_members", "rings of n and n + 1 typedefs of a structure of 63 members with names of 4 n bytes", long_members, 64),
     Kind("gone_members", "rings of n and n + 1 typedefs of a structure whose member with a name of 64 n bytes is gone", gone_members, 40),
 ]

@@ -109,7 +109,7 @@ def kinds_of_types(count: int) -> Case:
 
 KINDS = [
     Kind("exact_names", "n sections that give a name, n exports", exact_names, 3000),
-    Kind("patterns", "n sections with a pattern of few bytes, n exports", patterns, 1000),
+    Kind("patterns", "n sections with a pattern of few bytes, n exports", patterns, 2000),
     Kind("small_patterns", "n sections with one small pattern, one export", small_patterns, 500),
     Kind("classes", "n patterns of Unicode classes, 256 bytes each", classes, 20),
     Kind("folded_classes", "n patterns of classes of letters in both cases, 256 bytes each", folded_classes, 20),

@@ -1,15 +1,20 @@
 -- The numbers of visits, one visit after another.
-use Rattle.std.proofs.Common.{◌≡◌, ◌<◌, ◌+◌, ◌==◌, ◌&&◌, ℕ, true, false, cond, List, [], Some, refl, sym, ◌∙◌, ap, subst, inl, inr, arith}
+use Rattle.std.proofs.Common.{◌≡◌, ◌<◌, ◌+◌, ◌==◌, ◌&&◌, ℕ, Bool, true, false, cond, List, [], ◌∷◌, map, Option, Some, refl, sym, ◌∙◌, ap, subst, inl, inr, arith}
 use Rattle.std.specs.Prelude.{slice_get}
+use Rattle.std.specs.BTreeMap.{BTreeMap, get}
+use Rattle.std.specs.Cmp.{both_tied, unsigned_ties}
+use Rattle.std.specs.Map.{lookup}
+use Rattle.std.specs.Ordering.{bool_cmp, is_eq, nat_cmp, ordering_then}
+use Rattle.std.specs.declared.cmp.Ordering.{Ordering}
 use Rattle.std.proofs.lemmas.Bool.{and_from, and_parts, cases_Bool, cases_lt, false≢true, eq-eqb, eqb-true}
 use Rattle.std.proofs.lemmas.Option.{none-some, same_Some}
 use Rattle.abi_types.specs.declared.kind.Way.{Way}
 use Rattle.abi_types.specs.declared.kind.Way.TheVariants.{Direct, Pointer}
-use Rattle.pair_rules.specs.Steps.{Triple}
+use Rattle.pair_rules.specs.Steps.{Triple, is_pointer}
 use Rattle.pair_explorer.specs.declared.visits.Visit.{Visit}
-use Rattle.pair_explorer.specs.Keys.{at_triple}
+use Rattle.pair_explorer.specs.Keys.{Key, at_triple, key_cmp, key_of}
 use Rattle.pair_explorer.specs.Visits.{seen}
-use Rattle.leading_exports.specs.Numbers.{AreNumbersUpto, HasNumber, IsNumberOf, number_in}
+use Rattle.leading_exports.specs.Numbers.{AreNumbersUpto, HasNumber, IsNumberOf, number_in, numbered, way_of}
 use Rattle.pair_rules.proofs.lemmas.Triples.{triple_eq}
 
 -- ---- triples that the test tells to be one are one
@@ -29,6 +34,43 @@ itself_made a b Pointer = and_from (a == a) (b == b && true) (eq-eqb a a refl) (
 
 pub at_triple-itself : (x : Triple) → at_triple x x ≡ true
 at_triple-itself x = itself_made x.old x.new x.way
+
+-- ---- triples and their keys
+
+and_assoc : (a b c : Bool) → ((a && b) && c) ≡ (a && (b && c))
+and_assoc true b c = refl
+and_assoc false b c = refl
+
+numbers_tied : (a b c d : ℕ) (w : Bool) (o : Ordering) → w ≡ is_eq o → is_eq (ordering_then (ordering_then (nat_cmp a c) (nat_cmp b d)) o) ≡ (a == c && (b == d && w))
+numbers_tied a b c d w o is =
+    sym (both_tied (a == c && b == d) w (ordering_then (nat_cmp a c) (nat_cmp b d)) o (both_tied (a == c) (b == d) (nat_cmp a c) (nat_cmp b d) (unsigned_ties a c) (unsigned_ties b d)) is)
+    ∙ and_assoc (a == c) (b == d) w
+
+made_tied : (a b : ℕ) (v : Way) (c d : ℕ) (p : Bool) → is_eq (key_cmp (a, b, is_pointer v) (c, d, p)) ≡ at_triple (record { old = a; new = b; way = v }) (record { old = c; new = d; way = way_of p })
+made_tied a b Direct c d false = numbers_tied a b c d true (bool_cmp false false) refl
+made_tied a b Direct c d true = numbers_tied a b c d false (bool_cmp false true) refl
+made_tied a b Pointer c d true = numbers_tied a b c d true (bool_cmp true true) refl
+made_tied a b Pointer c d false = numbers_tied a b c d false (bool_cmp true false) refl
+
+way_back : (w : Way) → way_of (is_pointer w) ≡ w
+way_back Direct = refl
+way_back Pointer = refl
+
+-- keys compare equal exactly where their triples are the same
+key_tied : (x q : Triple) → is_eq (key_cmp (key_of x) (key_of q)) ≡ at_triple x q
+key_tied x q = made_tied x.old x.new x.way q.old q.new (is_pointer q.way) ∙ ap (λ (w : Way). at_triple x (record { old = q.old; new = q.new; way = w })) (way_back q.way)
+
+pub found_is : (x : Triple) (entries : List (Key × ℕ)) → lookup (λ (k : Key). is_eq (key_cmp (key_of x) k)) entries ≡ number_in (map numbered entries) x
+found_is x [] = refl
+found_is x (e ∷ es) =
+    ap (λ (b : Bool). cond b (Some e.1) (lookup (λ (k : Key). is_eq (key_cmp (key_of x) k)) es)) (made_tied x.old x.new x.way e.0.0 e.0.1 e.0.2)
+    ∙ ap (λ (o : Option ℕ). cond (at_triple x (numbered e).0) (Some e.1) o) (found_is x es)
+
+pub inserted_is : (old new : BTreeMap Key ℕ) (x : Triple) (key : Key) (n : ℕ) → key ≡ key_of x → ((q : Key) → get key_cmp new q ≡ cond (is_eq (key_cmp key q)) (Some n) (get key_cmp old q))
+    → (q : Triple) → number_in (map numbered new.entries) q ≡ cond (at_triple x q) (Some n) (number_in (map numbered old.entries) q)
+inserted_is old new x key n is puts q =
+    sym (found_is q new.entries) ∙ puts (key_of q) ∙ ap (λ (k : Key). cond (is_eq (key_cmp k (key_of q))) (Some n) (get key_cmp old (key_of q))) is
+    ∙ ap (λ (b : Bool). cond b (Some n) (get key_cmp old (key_of q))) (key_tied x q) ∙ ap (λ (o : Option ℕ). cond (at_triple x q) (Some n) o) (found_is q old.entries)
 
 -- ---- one more number
 

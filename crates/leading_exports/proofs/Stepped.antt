@@ -1,5 +1,5 @@
 -- Steps over representatives, as the code takes them.
-use Rattle.std.proofs.Common.{◌≡◌, ◌<◌, ℕ, false, length, Option, Some, None, List, refl, sym, ◌∙◌, ap, arith}
+use Rattle.std.proofs.Common.{◌≡◌, ℕ, false, Option, Some, None, sym, ◌∙◌, ap}
 use Rattle.std.specs.Option.{option_map}
 use Rattle.abi_types.specs.Types.{PlainView}
 use Rattle.abi_types.specs.Graphs.{view_at, IsGraph}

@@ -1,10 +1,20 @@
 -- The number of a visit, by its triple.
-use Rattle.std.specs.Prelude.{◌≡◌, ◌<◌, ℕ, List, length, Option, Some, slice_get}
+use Rattle.std.specs.Prelude.{◌≡◌, ◌<◌, ℕ, Bool, true, false, List, length, Option, Some, slice_get}
 use Rattle.std.specs.Map.{lookup}
+use Rattle.abi_types.specs.declared.kind.Way.{Way}
+use Rattle.abi_types.specs.declared.kind.Way.TheVariants.{Direct, Pointer}
 use Rattle.pair_rules.specs.Steps.{Triple}
 use Rattle.pair_explorer.specs.declared.visits.Visit.{Visit}
-use Rattle.pair_explorer.specs.Keys.{at_triple}
+use Rattle.pair_explorer.specs.Keys.{Key, at_triple}
 use Rattle.pair_explorer.specs.Visits.{seen}
+
+-- the triple whose key this is, with its number
+abbrev pub way_of : Bool → Way
+way_of true = Pointer
+way_of false = Direct
+
+abbrev pub numbered : Key × ℕ → Triple × ℕ
+numbered e = (record { old = e.0.0; new = e.0.1; way = way_of e.0.2 }, e.1)
 
 -- the number of a triple among the entries
 abbrev pub number_in : List (Triple × ℕ) → Triple → Option ℕ

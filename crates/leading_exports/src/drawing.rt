@@ -10,9 +10,9 @@ ghost use Rattle.leading_exports.specs.Drawing.{all_arrows, arrow_to, arrows_alo
 ghost use Rattle.leading_exports.specs.Walks.{IsWalk};
 
 use crate::arrows::Arrow;
+use crate::numbers::Numbers;
 use crate::walk::{Walk, is_marked};
 use abi_base::{List, NoMemory};
-use indexmap::IndexMap;
 use pair_explorer::{GraphPair, Visit};
 use pair_rules::laws::steps_lead_to_nodes;
 use pair_rules::{Comparison, Steps, Triple, next_of};
@@ -49,17 +49,17 @@ fn next_triple(
 // Adds the arrow from a number to the number of a triple.
 fn push_arrow(
     arrows: &mut List<Arrow>,
-    numbers: &IndexMap<Triple, usize>,
+    numbers: &Numbers,
     from: usize,
     to: Option<Triple>,
 ) -> Result<(), NoMemory>
-    ensures { OnOk result (arrows.new ≡ arrows.old ++ arrow_to numbers.now.entries from to) }
+    ensures { OnOk result (arrows.new ≡ arrows.old ++ arrow_to numbers.now from to) }
 {
     match to {
         None => Ok(()),
         Some(triple) => match numbers.get(&triple) {
             None => Ok(()),
-            Some(number) => arrows.push((from, *number)),
+            Some(number) => arrows.push((from, number)),
         },
     }
 }
@@ -86,7 +86,7 @@ fn push_along(
     requires old { visit.now.old < length walk.now.ground.now.old.now }
     requires new { visit.now.new < length walk.now.ground.now.new.now }
     requires matches { matches.now ≡ comparisons.matches (view_at walk.now.ground.now.old.now visit.now.old) (view_at walk.now.ground.now.new.now visit.now.new) }
-    ensures { OnOk result (arrows.new ≡ arrows.old ++ arrows_along (scope_of walk.now.ground.now) walk.now.numbers.now.entries number (seen visit.now) (length (view_at walk.now.ground.now.old.now visit.now.old).parts)) }
+    ensures { OnOk result (arrows.new ≡ arrows.old ++ arrows_along (scope_of walk.now.ground.now) walk.now.numbers.now number (seen visit.now) (length (view_at walk.now.ground.now.old.now visit.now.old).parts)) }
 {
     'parts: for i in 0..parts_len(walk.ground, visit) {
         let next = next_triple(walk.ground, visit, matches, i);
@@ -103,9 +103,9 @@ fn push_from<L: Ledger>(
     number: usize,
     steps: &mut Steps<L>,
 ) -> Result<(), NoMemory>
-    requires walk { IsWalk (scope_of walk.now.ground.now) walk.now.visits.now walk.now.numbers.now.entries }
+    requires walk { IsWalk (scope_of walk.now.ground.now) walk.now.visits.now walk.now.numbers.now }
     requires number { number < length walk.now.visits.now }
-    ensures { OnOk result (arrows.new ≡ arrows.old ++ arrows_from (scope_of walk.now.ground.now) walk.now.visits.now walk.now.numbers.now.entries number) }
+    ensures { OnOk result (arrows.new ≡ arrows.old ++ arrows_from (scope_of walk.now.ground.now) walk.now.visits.now walk.now.numbers.now number) }
 {
     let visit = walk.visits.visit(number);
     if is_marked(walk.ground, visit.old, visit.way) {
@@ -125,8 +125,8 @@ pub fn arrows_of<L: Ledger>(
     walk: &Walk,
     steps: &mut Steps<L>,
 ) -> Result<List<Arrow>, NoMemory>
-    requires { IsWalk (scope_of walk.now.ground.now) walk.now.visits.now walk.now.numbers.now.entries }
-    ensures { IfOk result (λ arrows. arrows ≡ all_arrows (scope_of walk.now.ground.now) walk.now.visits.now walk.now.numbers.now.entries) }
+    requires { IsWalk (scope_of walk.now.ground.now) walk.now.visits.now walk.now.numbers.now }
+    ensures { IfOk result (λ arrows. arrows ≡ all_arrows (scope_of walk.now.ground.now) walk.now.visits.now walk.now.numbers.now) }
 {
     let mut arrows = List::new(alloc);
     'visits: for number in 0..walk.visits.len() {

@@ -48,7 +48,7 @@ fn is_lead(walk: &Walk, marks: &[bool], root: &Root) -> bool
     requires nodes { HasNodes (scope_of walk.now.ground.now) }
     requires old { root.now.old < length walk.now.ground.now.old.now }
     requires new { root.now.new < length walk.now.ground.now.new.now }
-    ensures { result ≡ spec.is_lead (scope_of walk.now.ground.now) walk.now.numbers.now.entries marks.now root.now }
+    ensures { result ≡ spec.is_lead (scope_of walk.now.ground.now) walk.now.numbers.now marks.now root.now }
 {
     let triple = Triple {
         old: walk.ground.old_classes.rep(root.old),
@@ -57,7 +57,7 @@ fn is_lead(walk: &Walk, marks: &[bool], root: &Root) -> bool
     };
     match walk.numbers.get(&triple) {
         None => false,
-        Some(number) => match marks.get(*number) {
+        Some(number) => match marks.get(number) {
             None => false,
             Some(mark) => *mark,
         },
@@ -67,7 +67,7 @@ fn is_lead(walk: &Walk, marks: &[bool], root: &Root) -> bool
 // The exports of the roots that lead to a marked triple.
 fn leads_of(alloc: Global, walk: &Walk, marks: &[bool]) -> Result<List<u32>, NoMemory>
     requires { HasNodes (scope_of walk.now.ground.now) }
-    ensures { IfOk result (λ exports. exports ≡ map (λ (root : PlainRoot). root.export) (filter (spec.is_lead (scope_of walk.now.ground.now) walk.now.numbers.now.entries marks.now) walk.now.ground.now.roots.now)) }
+    ensures { IfOk result (λ exports. exports ≡ map (λ (root : PlainRoot). root.export) (filter (spec.is_lead (scope_of walk.now.ground.now) walk.now.numbers.now marks.now) walk.now.ground.now.roots.now)) }
 {
     let mut exports = List::new(alloc);
     let roots = walk.ground.roots;
@@ -90,8 +90,8 @@ pub fn exports_to(
     pair: (OldIx, NewIx),
     effort: &mut Effort,
 ) -> Result<List<u32>, NoMemory>
-    requires walk { IsWalk (scope_of walk.now.ground.now) walk.now.visits.now walk.now.numbers.now.entries }
-    requires arrows { arrows.now ≡ all_arrows (scope_of walk.now.ground.now) walk.now.visits.now walk.now.numbers.now.entries }
+    requires walk { IsWalk (scope_of walk.now.ground.now) walk.now.visits.now walk.now.numbers.now }
+    requires arrows { arrows.now ≡ all_arrows (scope_of walk.now.ground.now) walk.now.visits.now walk.now.numbers.now }
     ensures { IfOk result (AreLeading (scope_of walk.now.ground.now) pair.0 pair.1) }
 {
     what_is_visited_has_a_visit();

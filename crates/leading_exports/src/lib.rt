@@ -10,5 +10,5 @@ mod walk;
 pub use arrows::{Arrow, mark_leading};
 pub use drawing::arrows_of;
 pub use leading::exports_to;
-pub use numbers::numbers_of;
+pub use numbers::{Numbers, numbers_of};
 pub use walk::Walk;

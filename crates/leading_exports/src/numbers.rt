@@ -1,21 +1,83 @@
 // The numbers of visits, by what they visit.
-ghost use Rattle.std.specs.Prelude.{IfOk};
-ghost use Rattle.leading_exports.specs.Numbers.{AreNumbers};
+ghost use Rattle.std.specs.Prelude.{◌≡◌, [], cond, Some, IfOk, OnOk};
+ghost use Rattle.std.specs.Option.{option_copied};
+ghost use Rattle.pair_rules.specs.Steps.{Triple as PlainTriple};
+ghost use Rattle.pair_explorer.specs.Keys.{at_triple};
+ghost use Rattle.pair_explorer.specs.Keys as keys;
+ghost use Rattle.leading_exports.specs.Numbers.{AreNumbers, number_in};
 
 use abi_base::NoMemory;
-use indexmap::IndexMap;
+use abi_types::{Index, Way};
 use pair_explorer::Visits;
 use pair_rules::Triple;
 use std::alloc::Global;
+use std::collections::BTreeMap;
+use std::marker::Model;
+
+/// The numbers of visits. Contracts see them as a list of triples with their numbers.
+#[derive(Drop)]
+pub struct Numbers {
+    // The numbers, by the keys of triples. A file decides which types meet, and could make the hash codes of their triples collide, so
+    // they stand in a search tree.
+    by_key: BTreeMap<(usize, usize, bool), usize>,
+}
+
+impl Model for Numbers {
+    ghost use Rattle.std.specs.Prelude.{ℕ, List, map};
+    ghost use Rattle.pair_rules.specs.Steps.{Triple};
+    ghost use Rattle.leading_exports.specs.Numbers.{numbered};
+
+    ghost Value = { List (Triple × ℕ) };
+
+    ghost view = { λ numbers. map numbered numbers.by_key.entries };
+}
+
+// The key of a triple.
+fn key_of(triple: &Triple) -> (usize, usize, bool)
+    ensures { result ≡ keys.key_of triple.now }
+{
+    (
+        triple.old.number(),
+        triple.new.number(),
+        matches!(triple.way, Way::Pointer),
+    )
+}
+
+impl Numbers {
+    // No numbers.
+    fn new(alloc: Global) -> Numbers
+        ensures { result ≡ [] }
+    {
+        Numbers {
+            by_key: BTreeMap::new(alloc),
+        }
+    }
+
+    /// The number of a triple, if it has one.
+    pub fn get(&self, triple: &Triple) -> Option<usize>
+        ensures { result ≡ number_in self.now triple.now }
+    {
+        let key = key_of(triple);
+        self.by_key.get(&key).copied()
+    }
+
+    // Gives a triple a number.
+    fn insert(&mut self, triple: &Triple, number: usize) -> Result<(), NoMemory>
+        ensures { OnOk result ((q : PlainTriple) → number_in self.new q ≡ cond (at_triple triple.now q) (Some number) (number_in self.old q)) }
+    {
+        self.by_key.insert(key_of(triple), number)?;
+        Ok(())
+    }
+}
 
 /// The number of a visit of each triple that was visited.
-pub fn numbers_of(alloc: Global, visits: &Visits) -> Result<IndexMap<Triple, usize>, NoMemory>
-    ensures { IfOk result (λ numbers. AreNumbers visits.now numbers.entries) }
+pub fn numbers_of(alloc: Global, visits: &Visits) -> Result<Numbers, NoMemory>
+    ensures { IfOk result (AreNumbers visits.now) }
 {
-    let mut numbers = IndexMap::new(alloc);
+    let mut numbers = Numbers::new(alloc);
     'visits: for number in 0..visits.len() {
         let visit = visits.visit(number);
-        numbers.insert(visit.triple(), number)?;
+        numbers.insert(&visit.triple(), number)?;
     }
     Ok(numbers)
 }

@@ -3,10 +3,9 @@ ghost use Rattle.std.specs.Prelude.{◌≡◌};
 ghost use Rattle.pair_rules.specs.Steps as steps;
 ghost use Rattle.pair_explorer.specs.GraphPairs.{scope_of};
 
+use crate::numbers::Numbers;
 use abi_types::{Index, OldIx, Way};
-use indexmap::IndexMap;
 use pair_explorer::{GraphPair, Visits};
-use pair_rules::Triple;
 
 /// The input of an exploration, its visits, and their numbers as `numbers_of` returns them.
 #[derive(Clone, Copy)]
@@ -16,7 +15,7 @@ pub struct Walk<'x, 'o, 'n, 'og, 'oc, 'ng, 'nc> {
     /// Its visits.
     pub visits: &'x Visits,
     /// The number of a visit, by its triple.
-    pub numbers: &'x IndexMap<Triple, usize>,
+    pub numbers: &'x Numbers,
 }
 
 /// Whether an old node is marked at a way.

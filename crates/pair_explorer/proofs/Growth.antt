@@ -1,12 +1,11 @@
 -- Visits that grow keep what held of them.
-use Rattle.std.proofs.Common.{◌≡◌, ◌<◌, ℕ, true, false, cond, List, [], ◌∷◌, ◌++◌, length, slice_get, Some, sym, ◌∙◌, ap, inl, inr, arith}
+use Rattle.std.proofs.Common.{◌≡◌, ℕ, true, false, cond, List, [], ◌∷◌, ◌++◌, slice_get, Some, sym, ◌∙◌, ap}
 use Rattle.std.proofs.lemmas.Map.Keys.{any_passes_from_place}
-use Rattle.std.proofs.lemmas.Option.{slice_get_cases}
 use Rattle.pair_rules.specs.Steps.{Triple}
 use Rattle.pair_explorer.specs.declared.visits.Visit.{Visit}
 use Rattle.pair_explorer.specs.Visits.{seen, has, IsVisit}
 use Rattle.pair_explorer.specs.Adding.{added}
-use Rattle.abi_base.proofs.lemmas.Lists.{any_found, slice_get-append, at_below}
+use Rattle.abi_base.proofs.lemmas.Lists.{any_found, slice_get-append}
 use Rattle.pair_explorer.proofs.Triples.{same_triple-refl, same_triple-is}
 
 -- what stands in `vs` stands in `ws`, at its place

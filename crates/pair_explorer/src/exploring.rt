@@ -25,9 +25,9 @@ pub struct Explored {
 // The limit on visits: so many for each type of both libraries, plus a constant. In libraries built from one source a type meets
 // itself in two ways at most. But two rings of types whose lengths have no common factor meet in all pairs, so a small file can ask
 // for very many visits.
-const VISITS_A_TYPE: usize = 6;
+const VISITS_A_TYPE: usize = 5;
 
-const VISITS_AT_LEAST: usize = 65_536;
+const VISITS_AT_LEAST: usize = 16_384;
 
 // The limit on broken rules: so many for each type of both libraries, plus a constant. Where each type of a library is changed, few
 // types break more than two rules.

@@ -66,7 +66,7 @@ pub struct Visits {
     list: Vec<Visit>,
     // The keys of their triples. A file decides which types meet, and could make the hash codes of their triples collide, so they
     // stand in a search tree.
-    known: BTreeSet<(usize, usize, bool)>,
+    known: BTreeSet<(u32, u32, bool)>,
     // The limit on visits, and what may still be compared and broken.
     limits: VisitLimits,
 }
@@ -95,24 +95,27 @@ fn ask_visit(count: usize, most: usize) -> Result<(), NoMemory>
     }
 }
 
-// The key of a visit's triple.
-fn key_of(visit: &Visit) -> (usize, usize, bool)
-    ensures { result ≡ spec.key_of (seen visit.now) }
+// The key of a visit's triple, in few bytes, since there may be very many. It fails where the number of a type takes more than 32
+// bits, which no file that can be read has.
+fn key_of(visit: &Visit) -> Result<(u32, u32, bool), NoMemory>
+    ensures { IfOk result (λ key. key ≡ spec.key_of (seen visit.now)) }
 {
-    (
-        visit.old.number(),
-        visit.new.number(),
-        matches!(visit.way, Way::Pointer),
-    )
+    let Ok(old) = u32::try_from(visit.old.number()) else {
+        return Err(NoMemory::Past(Limit::Pairs));
+    };
+    let Ok(new) = u32::try_from(visit.new.number()) else {
+        return Err(NoMemory::Past(Limit::Pairs));
+    };
+    Ok((old, new, matches!(visit.way, Way::Pointer)))
 }
 
 // Puts the key of a visit's triple among the known ones, and returns whether it is new.
-fn put(known: &mut BTreeSet<(usize, usize, bool)>, visit: &Visit) -> Result<bool, NoMemory>
+fn put(known: &mut BTreeSet<(u32, u32, bool)>, visit: &Visit) -> Result<bool, NoMemory>
     ensures is_new { IfOk result (λ is_new. (visits : List PlainVisit) → AreKnown known.old visits → is_new ≡ not (has visits (seen visit.now))) }
     ensures known { OnOk result ((visits : List PlainVisit) → AreKnown known.old visits → AreKnown known.new (added visits visit.now)) }
     ensures err { OnErr result ((visits : List PlainVisit) → AreKnown known.old visits → AreKnown known.new visits) }
 {
-    let key = key_of(visit);
+    let key = key_of(visit)?;
     let is_new = known.insert(key)?;
     Ok(is_new)
 }

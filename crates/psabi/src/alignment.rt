@@ -73,7 +73,9 @@ pub fn size<Ix: Index>(graph: &Graph<Ix>, ix: Ix) -> u64
     view.size
 }
 
-/// The same as `align`, but computes each node only once: takes results from `found`, and adds new ones to it.
+/// The alignment of the node's object in bytes: its natural one, or for an aggregate the greatest of the objects inside it. An
+/// explicit alignment raises it. Takes results from `found`, and adds new ones to it, so that each node is computed only once. Its
+/// recursion is at most 513 deep, since no rank exceeds 512.
 pub fn align_with<Ix: Index>(graph: &Graph<Ix>, ix: Ix, found: &mut [Found]) -> u64
     requires inside { Ix.number_of ix < length graph.now }
     requires right { IsRight graph.now found.now }
@@ -96,15 +98,6 @@ pub fn align_with<Ix: Index>(graph: &Graph<Ix>, ix: Ix, found: &mut [Found]) -> 
         }
     }
     keep_align(graph, ix, greatest.max(view.align), found)
-}
-
-/// The alignment of the node's object in bytes: its natural one, or for an aggregate the greatest of the objects inside it. An
-/// explicit alignment raises it. Allocates nothing. Its recursion is at most 513 deep, since no rank exceeds 512.
-pub fn align<Ix: Index>(graph: &Graph<Ix>, ix: Ix) -> u64
-    requires { Ix.number_of ix < length graph.now }
-    ensures { result ≡ align_of graph.now (Ix.number_of ix) }
-{
-    align_with(graph, ix, &mut [])
 }
 
 /// The alignments of all nodes' objects in bytes, each at its node's number. Computes each only once, so that a type which many others

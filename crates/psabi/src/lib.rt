@@ -23,7 +23,7 @@ mod sizes;
 mod touching;
 mod walks;
 
-pub use alignment::{align, alignments, size};
+pub use alignment::{alignments, size};
 pub use calling::{call_shape, call_shapes};
 pub use class::Class;
 pub use classification::classes;

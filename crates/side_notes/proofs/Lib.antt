@@ -4,6 +4,7 @@ mod CountLemmas
 mod IdleLemmas
 mod LineLemmas
 mod Marked
+mod NameLemmas
 mod OldExportLemmas
 mod RuleLemmas
 mod SaidLemmas

@@ -1,5 +1,5 @@
 -- Versions, each once, one export after another.
-use Rattle.std.proofs.Common.{◌≡◌, ◌<◌, ◌+◌, ℕ, Bool, true, false, not, List, [], ◌∷◌, ◌++◌, length, take, get_or, map, Option, Some, None, refl, sym, ◌∙◌, ap, inl, inr}
+use Rattle.std.proofs.Common.{◌≡◌, ◌<◌, ◌+◌, ℕ, not, List, [], ◌∷◌, ◌++◌, length, take, get_or, map, Option, Some, None, refl, sym, ◌∙◌, ap, inl, inr}
 use Rattle.std.specs.Prelude.{filter, filter_map, flat_map}
 use Rattle.std.specs.Borrow.{Bor}
 use Rattle.std.specs.List.{list_any}
@@ -9,28 +9,13 @@ use Rattle.std.proofs.lemmas.Bool.{cases_Bool}
 use Rattle.std.proofs.lemmas.List.{append-nil, map-append, take_more}
 use Rattle.std.proofs.lemmas.List.Elements.{filter_map-append}
 use Rattle.std.proofs.lemmas.List.Folds.{flat_map-map}
-use Rattle.abi_base.proofs.lemmas.Lists.{any-map}
-use Rattle.indexmap.specs.IndexSet.{insert_key}
 use Rattle.abi_base.specs.Lists.{firsts, firsts_after, with_first}
 use Rattle.abi_types.specs.declared.export.Export.{Export}
 use Rattle.abi_types.specs.Exports.{PlainExport}
 use Rattle.abi_types.specs.Plain.{plain_export, plain_exports}
 use Rattle.type_notes.specs.declared.note.Note.{Note}
 use Rattle.side_notes.specs.Versions.{kept_with, notes_if_new, version_note, version_notes, versions_of}
-
-abbrev pub bytes_at : Bor (List ℕ) → List ℕ
-bytes_at v = v.now
-
-abbrev pub same_bytes : Bor (List ℕ) → Bor (List ℕ) → Bool
-same_bytes v w = bytes_eq v.now w.now
-
--- a key that is inserted, and what it points to
-pub put_is : (keys grown : List (Bor (List ℕ))) (v : Bor (List ℕ)) → grown ≡ insert_key same_bytes keys v → map bytes_at grown ≡ with_first bytes_eq (map bytes_at keys) v.now
-put_is keys grown v is = ap (map bytes_at) is ∙ go (list_any (same_bytes v) keys) refl
-  where
-    go : (b : Bool) → list_any (same_bytes v) keys ≡ b → map bytes_at (insert_key same_bytes keys v) ≡ with_first bytes_eq (map bytes_at keys) v.now
-    go true there = let known : list_any (bytes_eq v.now) (map bytes_at keys) ≡ true = any-map (bytes_eq v.now) bytes_at keys ∙ there in rw (there, known) refl
-    go false new = let unknown : list_any (bytes_eq v.now) (map bytes_at keys) ≡ false = any-map (bytes_eq v.now) bytes_at keys ∙ new in rw (new, unknown) (map-append bytes_at keys (v ∷ []))
+use Rattle.side_notes.proofs.NameLemmas.{bytes_at}
 
 firsts_after-more : (kept xs : List (List ℕ)) (x : List ℕ) → firsts_after bytes_eq kept (xs ++ x ∷ []) ≡ with_first bytes_eq (firsts_after bytes_eq kept xs) x
 unfolding firsts_after
@@ -55,10 +40,6 @@ versions_more exports i d keys grown lt is grows =
     let more : take (i + 1) exports ≡ take i exports ++ e ∷ [] = take_more exports i d lt in
     let plain : plain_exports (take (i + 1) exports) ≡ plain_exports (take i exports) ++ plain_export e ∷ [] = ap plain_exports more ∙ map-append plain_export (take i exports) (e ∷ []) in
     grows ∙ ap (λ (ks : List (List ℕ)). kept_with ks (option_copied e.version)) is ∙ sym (ap versions_of plain ∙ version_push (plain_exports (take i exports)) (plain_export e) (option_copied e.version) refl)
-
--- whether a version is one of the keys
-pub known_is : (keys : List (Bor (List ℕ))) (v : Bor (List ℕ)) → list_any (same_bytes v) keys ≡ list_any (bytes_eq v.now) (map bytes_at keys)
-known_is keys v = sym (any-map (bytes_eq v.now) bytes_at keys)
 
 -- the notes on the versions that are new
 notes_new : (known versions : List (List ℕ)) → flat_map (notes_if_new known) versions ≡ map version_note (filter (λ version. not (list_any (bytes_eq version) known)) versions)

@@ -14,4 +14,5 @@ pub mod SaidOnce
 pub mod Stems
 pub mod Successors
 pub mod Threads
+pub mod VersionNames
 pub mod Versions

@@ -235,8 +235,8 @@ fn push_row(
     room: &mut NoteRoom,
 ) -> Result<(), NoMemory>
     requires spelled { AreSpelled ground.now.library.now ground.now.walk.now.visits.now }
-    requires walk { IsWalk (scope_of ground.now.walk.now.ground.now) ground.now.walk.now.visits.now ground.now.walk.now.numbers.now.entries }
-    requires arrows { ground.now.arrows.now ≡ all_arrows (scope_of ground.now.walk.now.ground.now) ground.now.walk.now.visits.now ground.now.walk.now.numbers.now.entries }
+    requires walk { IsWalk (scope_of ground.now.walk.now.ground.now) ground.now.walk.now.visits.now ground.now.walk.now.numbers.now }
+    requires arrows { ground.now.arrows.now ≡ all_arrows (scope_of ground.now.walk.now.ground.now) ground.now.walk.now.visits.now ground.now.walk.now.numbers.now }
     ensures { OnOk result (AddsRow ground.now.library.now (scope_of ground.now.walk.now.ground.now) ground.now.walk.now.visits.now number notes.old notes.new) }
 {
     let (old, new) = pair_at(ground.walk.visits, number);
@@ -249,8 +249,8 @@ fn push_row(
 // counts as run out.
 fn rows_of(alloc: Global, ground: &Ground, numbers: &[usize]) -> Result<List<Note>, NoMemory>
     requires spelled { AreSpelled ground.now.library.now ground.now.walk.now.visits.now }
-    requires walk { IsWalk (scope_of ground.now.walk.now.ground.now) ground.now.walk.now.visits.now ground.now.walk.now.numbers.now.entries }
-    requires arrows { ground.now.arrows.now ≡ all_arrows (scope_of ground.now.walk.now.ground.now) ground.now.walk.now.visits.now ground.now.walk.now.numbers.now.entries }
+    requires walk { IsWalk (scope_of ground.now.walk.now.ground.now) ground.now.walk.now.visits.now ground.now.walk.now.numbers.now }
+    requires arrows { ground.now.arrows.now ≡ all_arrows (scope_of ground.now.walk.now.ground.now) ground.now.walk.now.visits.now ground.now.walk.now.numbers.now }
     ensures { IfOk result (AreRowNotes ground.now.library.now (scope_of ground.now.walk.now.ground.now) ground.now.walk.now.visits.now numbers.now) }
 {
     let mut room = NoteRoom::beside(ground.library);

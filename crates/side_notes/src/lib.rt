@@ -16,6 +16,7 @@ pub mod stems;
 pub mod successors;
 pub mod threads;
 mod types;
+mod version_list;
 pub mod versions;
 
 pub use between::export_notes;

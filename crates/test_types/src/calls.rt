@@ -1,7 +1,7 @@
 // What no contract states: calls succeed with enough memory, and the places of results and arguments in calls of small functions.
 use abi_base::{List, NoMemory};
 use abi_types::{Call, Graph, Group, Index, Kind, Node, OldIx, Part, Place, Slot};
-use psabi::{align, call_shape, call_shapes, classes, size};
+use psabi::{alignments, call_shape, call_shapes, classes, size};
 use std::alloc::Global;
 use std::fmt::Write;
 use std::process::Abort;
@@ -192,19 +192,17 @@ fn classes_of_small_objects(rt: HostRuntime) -> Result<(), Fail> {
     Ok(())
 }
 
-// The size and the alignment of a type.
-fn extent(rt: &impl Abort, graph: &Graph<OldIx>, name: &str) -> (u64, u64) {
-    let number = number_of(name);
-    assert!(rt; number < graph.len());
-    let ix = OldIx::of(number);
-    (size(graph, ix), align(graph, ix))
-}
-
 #[test]
 fn a_size_and_an_alignment(rt: HostRuntime) -> Result<(), Fail> {
     let graph = graph_of(&rt, rt.alloc(), types(rt.alloc())?)?;
-    assert_eq!(rt; extent(&rt, &graph, "across").0, 12);
-    assert_eq!(rt; extent(&rt, &graph, "mixed").1, 16);
+    let across = number_of("across");
+    assert!(rt; across < graph.len());
+    assert_eq!(rt; size(&graph, OldIx::of(across)), 12);
+    let aligns = alignments(rt.alloc(), &graph)?;
+    assert_eq!(rt;
+        aligns.as_slice().get(number_of("mixed")).copied(),
+        Some(16)
+    );
     Ok(())
 }
 

@@ -3,6 +3,7 @@ use crate::sections::dwarf;
 use abi_base::{FaultKind, NoMemory, Refusal};
 use dwarf_entries::Dwarf;
 use dwarf_forms::DebugInfoOffset;
+use dwarf_tree::EntryNumber;
 use std::alloc::Global;
 use std::process::Abort;
 use std::test::*;
@@ -57,16 +58,21 @@ fn offsets(alloc: Global, dwarf: &Dwarf, found: &ReachedEntries) -> Result<Vec<u
     Ok(offsets)
 }
 
-// The facts of the entry at an offset.
-fn facts(alloc: Global, dwarf: &Dwarf, offset: u64) -> Result<Option<Facts>, Refusal> {
-    let Some(root) = dwarf.find(DebugInfoOffset::new(offset)) else {
-        return Ok(None);
-    };
-    let found = reached(alloc, dwarf, &[root])?;
+// The facts of an entry.
+fn facts_of(alloc: Global, dwarf: &Dwarf, e: EntryNumber) -> Result<Option<Facts>, Refusal> {
+    let found = reached(alloc, dwarf, &[e])?;
     let leads = type_references_of(alloc, dwarf, &found, dwarf.len())?;
     let all = learn_all(alloc, dwarf, &found, &leads)?;
-    match found.number(root) {
+    match found.number(e) {
         Some(number) => Ok(all.get(number).copied()),
+        None => Ok(None),
+    }
+}
+
+// The facts of the entry at an offset.
+fn facts(alloc: Global, dwarf: &Dwarf, offset: u64) -> Result<Option<Facts>, Refusal> {
+    match dwarf.find(DebugInfoOffset::new(offset)) {
+        Some(e) => facts_of(alloc, dwarf, e),
         None => Ok(None),
     }
 }

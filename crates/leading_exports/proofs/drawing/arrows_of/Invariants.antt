@@ -5,4 +5,4 @@ use Rattle.leading_exports.specs.Drawing.{arrows_upto}
 use Rattle.leading_exports.proofs.drawing.arrows_of.Given as goal
 
 abbrev pub invariant-visits : goal.invariant-visits
-invariant-visits g l = l.arrows ≡ arrows_upto (scope_of l.walk.ground.now) l.walk.visits.now l.walk.numbers.now.entries l.number
+invariant-visits g l = l.arrows ≡ arrows_upto (scope_of l.walk.ground.now) l.walk.visits.now l.walk.numbers.now l.number

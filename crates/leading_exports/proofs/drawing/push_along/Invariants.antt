@@ -6,4 +6,4 @@ use Rattle.leading_exports.specs.Drawing.{arrows_along}
 use Rattle.leading_exports.proofs.drawing.push_along.Given as goal
 
 abbrev pub invariant-parts : goal.invariant-parts
-invariant-parts l = l.arrows ≡ l.fn.arrows ++ arrows_along (scope_of l.walk.ground.now) l.walk.numbers.now.entries l.number (seen l.visit) l.i
+invariant-parts l = l.arrows ≡ l.fn.arrows ++ arrows_along (scope_of l.walk.ground.now) l.walk.numbers.now l.number (seen l.visit) l.i

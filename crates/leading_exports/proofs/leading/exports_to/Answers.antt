@@ -14,13 +14,13 @@ mark_leading-requires c =
     let s : Scope = scope_of c.args.walk.now.ground.now in
     let visits = c.args.walk.now.visits.now in
     let many = ap length (c.as_mut_slice.ensures.value ∙ c.in_ok-marks.ensures) ∙ length-map visits (is_of_pair s c.args.pair.0 c.args.pair.1) in
-    inside s visits c.args.walk.now.numbers.now.entries c.args.arrows.now (length c.as_mut_slice.result.now) c.requires.walk c.requires.arrows many
+    inside s visits c.args.walk.now.numbers.now c.args.arrows.now (length c.as_mut_slice.result.now) c.requires.walk c.requires.arrows many
 
 pub returns : goal.returns
 returns c =
     let s : Scope = scope_of c.args.walk.now.ground.now in
     let visits = c.args.walk.now.visits.now in
-    let entries = c.args.walk.now.numbers.now.entries in
+    let entries = c.args.walk.now.numbers.now in
     let laws : StepLaws s = record { visited = c.what_is_visited_has_a_visit.ensures; exact = c.steps_lead_to_nodes.ensures.exact s.task } in
     let count = c.in_ok-marks.marks.len in
     let after = c.mark_leading.new.marks in
