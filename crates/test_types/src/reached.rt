@@ -1,4 +1,6 @@
 // The entries that types reach, and the facts about them.
+ghost use Rattle.std.specs.Prelude.{◌<◌, length};
+
 use crate::sections::dwarf;
 use abi_base::{FaultKind, NoMemory, Refusal};
 use dwarf_entries::Dwarf;
@@ -59,20 +61,14 @@ fn offsets(alloc: Global, dwarf: &Dwarf, found: &ReachedEntries) -> Result<Vec<u
 }
 
 // The facts of an entry.
-fn facts_of(alloc: Global, dwarf: &Dwarf, e: EntryNumber) -> Result<Option<Facts>, Refusal> {
+fn facts_of(alloc: Global, dwarf: &Dwarf, e: EntryNumber) -> Result<Option<Facts>, Refusal>
+    requires { e < length dwarf.now.tree.entries }
+{
     let found = reached(alloc, dwarf, &[e])?;
     let leads = type_references_of(alloc, dwarf, &found, dwarf.len())?;
     let all = learn_all(alloc, dwarf, &found, &leads)?;
     match found.number(e) {
         Some(number) => Ok(all.get(number).copied()),
-        None => Ok(None),
-    }
-}
-
-// The facts of the entry at an offset.
-fn facts(alloc: Global, dwarf: &Dwarf, offset: u64) -> Result<Option<Facts>, Refusal> {
-    match dwarf.find(DebugInfoOffset::new(offset)) {
-        Some(e) => facts_of(alloc, dwarf, e),
         None => Ok(None),
     }
 }
@@ -88,7 +84,7 @@ fn a_function_leads_to_its_type(rt: HostRuntime) -> Result<(), Fail> {
 }
 
 // The number and the position of a fault, or zeros if there is none.
-fn fault_of(judged: Result<Option<Facts>, Refusal>) -> (u64, u64) {
+fn fault_of(judged: Result<String, Refusal>) -> (u64, u64) {
     match judged {
         Err(Refusal::Fault(fault)) => (fault.kind.number(), fault.at),
         _ => (0, 0),
@@ -98,7 +94,7 @@ fn fault_of(judged: Result<Option<Facts>, Refusal>) -> (u64, u64) {
 #[test]
 fn a_typedef_of_itself_is_too_deep(rt: HostRuntime) -> Result<(), Fail> {
     let dwarf = dwarf(rt.alloc(), ABBREVS, CIRCLE)?;
-    let fault = fault_of(facts(rt.alloc(), &dwarf, 22));
+    let fault = fault_of(told_at(rt.alloc(), &dwarf, 22));
     assert_eq!(rt; fault, (FaultKind::TooDeep.number(), 15));
     Ok(())
 }
@@ -113,19 +109,33 @@ const FACTS: &str = "\
 78|16 4 3 2
 ";
 
-fn facts_at(alloc: Global, dwarf: &Dwarf, offset: u64) -> Result<String, Refusal> {
-    match facts(alloc, dwarf, offset)? {
+fn told(alloc: Global, facts: &Facts) -> Result<String, NoMemory> {
+    let (size, count, weight, rank) = (facts.size, facts.count, facts.weight, facts.rank);
+    let told = format!(in alloc; "{size} {count} {weight} {rank}")?;
+    Ok(told)
+}
+
+fn told_of(alloc: Global, dwarf: &Dwarf, e: EntryNumber) -> Result<String, Refusal>
+    requires { e < length dwarf.now.tree.entries }
+{
+    let facts = facts_of(alloc, dwarf, e)?;
+    match &facts {
         None => Ok(String::new(alloc)),
-        Some(one) => {
-            let (size, count, weight, rank) = (one.size, one.count, one.weight, one.rank);
-            Ok(format!(in alloc; "{size} {count} {weight} {rank}")?)
-        }
+        Some(facts) => Ok(told(alloc, facts)?),
+    }
+}
+
+// The facts of the entry at an offset.
+fn told_at(alloc: Global, dwarf: &Dwarf, offset: u64) -> Result<String, Refusal> {
+    match dwarf.find(DebugInfoOffset::new(offset)) {
+        None => Ok(String::new(alloc)),
+        Some(e) => told_of(alloc, dwarf, e),
     }
 }
 
 fn check_facts(rt: &impl Abort, alloc: Global, dwarf: &Dwarf, row: &str) -> Result<(), Refusal> {
     let (offset, wanted) = row.split_once('|').unwrap_or((row, ""));
-    let told = facts_at(alloc, dwarf, offset.parse().unwrap_or(0))?;
+    let told = told_at(alloc, dwarf, offset.parse().unwrap_or(0))?;
     assert_eq!(rt; told.as_str(), wanted, "at {offset}");
     Ok(())
 }
@@ -139,10 +149,28 @@ fn facts_of_types(rt: HostRuntime) -> Result<(), Fail> {
     Ok(())
 }
 
+fn span_of(alloc: Global, dwarf: &Dwarf, e: EntryNumber) -> Result<Option<Span>, Refusal>
+    requires { e < length dwarf.now.tree.entries }
+{
+    let facts = facts_of(alloc, dwarf, e)?;
+    match &facts {
+        None => Ok(None),
+        Some(facts) => Ok(facts.span),
+    }
+}
+
+// The span of the entry at an offset.
+fn span_at(alloc: Global, dwarf: &Dwarf, offset: u64) -> Result<Option<Span>, Refusal> {
+    match dwarf.find(DebugInfoOffset::new(offset)) {
+        None => Ok(None),
+        Some(e) => span_of(alloc, dwarf, e),
+    }
+}
+
 #[test]
 fn a_structure_has_the_span_of_its_bit_fields(rt: HostRuntime) -> Result<(), Fail> {
     let dwarf = dwarf(rt.alloc(), MORE_ABBREVS, TYPES)?;
-    let bits = facts(rt.alloc(), &dwarf, 22)?.ok_or("no facts")?;
-    assert_eq!(rt; bits.span, Some(Span { low: 0, high: 3 }));
+    let span = span_at(rt.alloc(), &dwarf, 22)?;
+    assert_eq!(rt; span, Some(Span { low: 0, high: 3 }));
     Ok(())
 }
