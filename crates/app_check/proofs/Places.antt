@@ -10,6 +10,7 @@ use Rattle.std.proofs.lemmas.List.{append-nil, map-append, take_more}
 use Rattle.std.proofs.lemmas.List.Elements.{filter-append}
 use Rattle.std.proofs.lemmas.List.Folds.{list_any-append}
 use Rattle.std.proofs.lemmas.List.FromFn.{map-range_with_len_more}
+use Rattle.abi_base.proofs.lemmas.Bools.{cond_last}
 use Rattle.abi_base.proofs.lemmas.Lists.{map-same_tests, take-map_more}
 use Rattle.abi_types.specs.declared.export.Export.{Export}
 use Rattle.abi_types.specs.Exports.{PlainExport}
@@ -55,12 +56,6 @@ Holds found places = (k : ℕ) → contains nat_eq found k ≡ list_any (is_at k
 pub nothing_found : (found : Found) → IsEmpty found → Holds found []
 nothing_found found empty k = grind (arith, common_steps)
 
-put : (b c : Bool) → cond b true c ≡ (c || (b || false))
-put true true = refl
-put true false = refl
-put false true = refl
-put false false = refl
-
 or_nothing : (b : Bool) → (b || (false || false)) ≡ b
 or_nothing true = refl
 or_nothing false = refl
@@ -73,7 +68,7 @@ module _ (found : Found) (places : List (Option ℕ)) (i : ℕ) (d : Option ℕ)
 
   pub found_added : (next : Found) (place : ℕ) → get_or places i d ≡ Some place → ((k : ℕ) → contains nat_eq next k ≡ cond (nat_eq place k) true (contains nat_eq found k)) → Holds next (take (i + 1) places)
   found_added next place is adds k =
-      adds k ∙ put (nat_eq place k) (contains nat_eq found k)
+      adds k ∙ cond_last (nat_eq place k) (contains nat_eq found k)
       ∙ ap (λ (b : Bool). b || (nat_eq place k || false)) (so_far k)
       ∙ ap (λ (o : Option ℕ). list_any (is_at k) (take i places) || (is_at k o || false)) (sym is)
       ∙ sym (any_more k)

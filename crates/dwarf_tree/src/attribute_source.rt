@@ -23,8 +23,8 @@ use dwarf_forms::abbreviations::{ShortPair, Spec, next_spec, short_pair};
 use dwarf_forms::laws::references_count_from_their_unit;
 use dwarf_forms::{DebugInfoOffset, DebugStrOffset, UnitSpan, Value, fixed_end, value, value_end};
 
-// What an entry's attributes are read from: the bytes, the slots of all shapes, the long texts among the bytes, the header of its unit, and the entry's shape and
-// record.
+// What an entry's attributes are read from: the bytes, the slots of all shapes, the long texts among the bytes, the header of its unit,
+// and the entry's shape and record.
 #[derive(Clone, Copy)]
 pub(crate) struct AttributeSource<'t> {
     pub info: &'t [u8],

@@ -9,6 +9,7 @@ use Rattle.std.specs.Str.{bytes_eq}
 use Rattle.std.proofs.lemmas.List.Folds.{list_any-append}
 use Rattle.std.proofs.lemmas.Slice.Eq.{bytes_eq-Decides}
 use Rattle.std.proofs.lemmas.Grind.{common_steps}
+use Rattle.abi_base.proofs.lemmas.Bools.{cond_last}
 use Rattle.abi_base.proofs.lemmas.Lists.{take-map_more, drop-map_more}
 use Rattle.abi_base.proofs.lemmas.Cases.{bool_cases}
 use Rattle.abi_base.specs.declared.fault.FaultKind.TheVariants as kind
@@ -42,13 +43,6 @@ or_nothing true c = refl
 or_nothing false true = refl
 or_nothing false false = refl
 
--- whether a key is in a set after one is put in that may be it
-put : (b c : Bool) → cond b true c ≡ (c || (b || false))
-put true true = refl
-put true false = refl
-put false true = refl
-put false false = refl
-
 -- what an insert gives
 abbrev pub AddsName : Names → Names → ℕ → PlainExport → Type 0
 AddsName names next code e = (q : ℕ × Bor (List ℕ)) → has_code next q.0 q.1.now ≡ cond (is_eq (name_cmp code e.name q.0 q.1.now)) true (has_code names q.0 q.1.now)
@@ -74,7 +68,7 @@ module _ (unversioned : Names) (versioned : Versioned) (before : List PlainExpor
   added_bare next code coded none adds = record {
     bare = λ name.
         adds (code_of name, borrowed name) ∙ ap (λ (b : Bool). cond b true (has_name unversioned name)) (same_name_where_equal code e.name name coded)
-        ∙ put (bytes_eq e.name name) (has_name unversioned name)
+        ∙ cond_last (bytes_eq e.name name) (has_name unversioned name)
         ∙ ap (λ (b : Bool). b || (bytes_eq e.name name || false)) (so_far.bare name)
         ∙ ap (λ (b : Bool). list_any (is_like name None) before || (b || false)) (turned e.name name ∙ sym (and_true (bytes_eq name e.name)) ∙ ap (λ (v : Option (List ℕ)). bytes_eq name e.name && same_name None v) (sym none))
         ∙ sym (one_more name None);
@@ -98,7 +92,7 @@ module _ (unversioned : Names) (versioned : Versioned) (before : List PlainExpor
         ∙ sym (one_more name None);
     paired = λ name other.
         adds (code_of name, borrowed name, borrowed other) ∙ ap (λ (b : Bool). cond b true (has_version versioned name other)) (same_version_where_equal code e.name version name other coded)
-        ∙ put (bytes_eq e.name name && bytes_eq version other) (has_version versioned name other)
+        ∙ cond_last (bytes_eq e.name name && bytes_eq version other) (has_version versioned name other)
         ∙ ap (λ (b : Bool). b || ((bytes_eq e.name name && bytes_eq version other) || false)) (so_far.paired name other)
         ∙ ap (λ (b : Bool). list_any (is_like name (Some other)) before || ((b && bytes_eq version other) || false)) (turned e.name name)
         ∙ ap (λ (b : Bool). list_any (is_like name (Some other)) before || ((bytes_eq name e.name && b) || false)) (turned version other)

@@ -8,11 +8,12 @@ use Rattle.pair_explorer.specs.declared.visits.Visit.{Visit}
 use Rattle.pair_explorer.specs.Keys.{Key, at_triple}
 use Rattle.pair_explorer.specs.Visits.{seen}
 
--- the triple whose key this is, with its number
+-- the way that a key says
 abbrev pub way_of : Bool → Way
 way_of true = Pointer
 way_of false = Direct
 
+-- the triple whose key this is, with its number
 abbrev pub numbered : Key × ℕ → Triple × ℕ
 numbered e = (record { old = e.0.0; new = e.0.1; way = way_of e.0.2 }, e.1)
 

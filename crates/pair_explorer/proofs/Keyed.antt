@@ -1,12 +1,12 @@
 -- The keys of visited triples, as one more visit is added.
 use Rattle.std.proofs.Common.{◌≡◌, ◌==◌, ◌&&◌, Bool, true, false, cond, List, [], ◌∷◌, ◌++◌, not, refl, sym, ◌∙◌, ap}
-use Rattle.std.specs.Prelude.{◌||◌}
 use Rattle.std.specs.BTreeSet.{BTreeSet, IsEmpty, IsUnchanged, contains}
 use Rattle.std.specs.Bool.{OnFalse, beq}
 use Rattle.std.specs.Cmp.{both_tied, nat_eq_equiv, unsigned_ties}
 use Rattle.std.specs.List.{list_any}
 use Rattle.std.specs.Ordering.{bool_cmp, is_eq, nat_cmp, ordering_then}
 use Rattle.std.proofs.lemmas.List.Folds.{list_any-append}
+use Rattle.abi_base.proofs.lemmas.Bools.{cond_last}
 use Rattle.pair_rules.specs.Steps.{Triple, is_pointer}
 use Rattle.pair_explorer.specs.declared.visits.Visit.{Visit}
 use Rattle.pair_explorer.specs.Adding.{added}
@@ -49,13 +49,6 @@ not_false : (b : Bool) → false ≡ not b → b ≡ true
 not_false true e = refl
 not_false false e = absurd cc
 
--- whether a triple is known after one that may be it
-either : (b c : Bool) → cond b true c ≡ (c || (b || false))
-either true true = refl
-either true false = refl
-either false true = refl
-either false false = refl
-
 pub AreKnown-none : (known : BTreeSet Key) (visits : List Visit) → IsEmpty known → visits ≡ [] → AreKnown known visits
 unfolding has
 AreKnown-none known visits empty none = rw none (record { each = λ x. ap (λ (ks : List Key). list_any (λ k. is_eq (key_cmp (key_of x) k)) ks) empty })
@@ -74,7 +67,7 @@ module _ (known next : BTreeSet Key) (v : Visit) (key : Key) (is_new : Bool) (is
     each_new x =
         let turned : is_eq (key_cmp key (key_of x)) ≡ same_triple x (seen v) = ap (λ (k : Key). is_eq (key_cmp k (key_of x))) is ∙ sym (key_tied (seen v) x) ∙ same_triple-turned (seen v) x in
         puts (key_of x) ∙ ap (λ (b : Bool). cond b true (contains key_cmp known (key_of x))) turned ∙ ap (λ (b : Bool). cond (same_triple x (seen v)) true b) (were.each x)
-        ∙ either (same_triple x (seen v)) (has visits x) ∙ sym (list_any-append (λ (u : Visit). same_triple x (seen u)) visits (v ∷ []))
+        ∙ cond_last (same_triple x (seen v)) (has visits x) ∙ sym (list_any-append (λ (u : Visit). same_triple x (seen u)) visits (v ∷ []))
         ∙ ap (λ (b : Bool). has (cond b visits (visits ++ v ∷ [])) x) (sym fresh)
 
   pub AreKnown-put : OnFalse is_new (IsUnchanged known next) → Puts known next key → AreKnown next (added visits v)

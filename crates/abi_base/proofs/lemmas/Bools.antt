@@ -1,5 +1,5 @@
 -- Laws of truth values.
-use Rattle.std.proofs.Common.{Bool, true, false, refl, ◌≡◌, not, ◌-◌, ap, ◌∙◌, sym, ap₂}
+use Rattle.std.proofs.Common.{Bool, true, false, cond, refl, ◌≡◌, not, ◌-◌, ap, ◌∙◌, sym, ap₂}
 use Rattle.std.specs.Prelude.{◌||◌, ◌&&◌}
 use Rattle.std.specs.Bool.{beq}
 
@@ -58,3 +58,10 @@ or_left_false true b e = absurd cc
 pub and_left_true : (a b : Bool) → (a && b) ≡ true → a ≡ true
 and_left_true true b h = refl
 and_left_true false b h = h
+
+-- whether a key is in a set after one is put in that may be it
+pub cond_last : (b c : Bool) → cond b true c ≡ (c || (b || false))
+cond_last true true = refl
+cond_last true false = refl
+cond_last false true = refl
+cond_last false false = refl

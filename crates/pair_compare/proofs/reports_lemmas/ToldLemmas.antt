@@ -16,7 +16,7 @@ use Rattle.std.proofs.lemmas.Cmp.{nat_list_eq_equiv}
 use Rattle.std.proofs.lemmas.List.Folds.{list_any-append}
 use Rattle.std.proofs.lemmas.List.Elements.{Contains-get_or}
 use Rattle.std.proofs.lemmas.Option.{slice_get-get_or}
-use Rattle.abi_base.proofs.lemmas.Bools.{not_is_true, not_is_false}
+use Rattle.abi_base.proofs.lemmas.Bools.{cond_last, not_is_true, not_is_false}
 use Rattle.abi_base.specs.Lists.{with_first, firsts_after, firsts}
 use Rattle.abi_base.proofs.lemmas.Lists.{AreFirsts-all, contains_at, list_any-map, map-map}
 use Rattle.abi_types.specs.declared.rule.Rule.TheVariants.{LibrarySoname}
@@ -65,13 +65,6 @@ same_key-turned k q =
     ∙ ap (λ (b : Bool). q.0 == k.0 && b && k.2 == q.2 && bytes_eq k.3 q.3) (nat_eq_equiv.symm k.1 q.1)
     ∙ ap (λ (b : Bool). q.0 == k.0 && q.1 == k.1 && b && bytes_eq k.3 q.3) (nat_eq_equiv.symm k.2 q.2)
     ∙ ap (λ (b : Bool). q.0 == k.0 && q.1 == k.1 && q.2 == k.2 && b) (nat_list_eq_equiv.symm k.3 q.3)
-
--- whether a key is in a set after one is put in that may be it
-put : (b c : Bool) → cond b true c ≡ (c || (b || false))
-put true true = refl
-put true false = refl
-put false true = refl
-put false false = refl
 
 -- what an index out of a list of breaks gives past its end
 abbrev pub no_break : ℕ × Broken
@@ -140,7 +133,7 @@ module _ (t : Task) (vs : List Visit) where
     keyed_more more puts q =
         let turned : is_eq (key_cmp key q) ≡ same_key (plain_key q) (told_key p) = sym (key_tied key q) ∙ same_key-turned (plain_key key) (plain_key q) ∙ ap (same_key (plain_key q)) key_is in
         puts q ∙ ap (λ (b : Bool). cond b true (contains key_cmp keys q)) turned ∙ ap (λ (b : Bool). cond (same_key (plain_key q) (told_key p)) true b) (was.keyed q)
-        ∙ put (same_key (plain_key q) (told_key p)) (is_key_of q kept) ∙ sym (list_any-append (λ (p : ℕ × Broken). same_key (plain_key q) (told_key p)) kept (p ∷ []))
+        ∙ cond_last (same_key (plain_key q) (told_key p)) (is_key_of q kept) ∙ sym (list_any-append (λ (p : ℕ × Broken). same_key (plain_key q) (told_key p)) kept (p ∷ []))
 
     pub IsTelling-more : (more : Keys) (added : Bool) → added ≡ not (contains key_cmp keys key) → added ≡ true → ((q : Key) → contains key_cmp more q ≡ cond (is_eq (key_cmp key q)) true (contains key_cmp keys q)) → IsTelling breaks (i + 1) more (kept ++ get_or breaks i no_break ∷ [])
     unfolding p
