@@ -11,6 +11,7 @@ use Rattle.abi_base.specs.Runs.{Run, put_front}
 use Rattle.dwarf_forms.specs.declared.abbreviations.abbrev.Spec.{Spec}
 use Rattle.dwarf_forms.specs.abbreviations.Abbrevs.{plain_pair, specs_run}
 use Rattle.dwarf_forms.specs.declared.values.Value.{Value}
+use Rattle.dwarf_forms.specs.declared.values.Value.TheVariants as value
 use Rattle.dwarf_forms.specs.Values.{forms, place_after, shape_of, value_at, value_of}
 use Rattle.dwarf_units.specs.Units.{attribute_of}
 use Rattle.dwarf_tree.specs.declared.head.Head.{Head}
@@ -30,6 +31,11 @@ pub text_passed : (form : ℕ) (implicit : ℤ) (start end entry : ℕ) (info : 
     → Ok (at + length text + 1) ≡ place_after (value_at form implicit start end entry info at)
 unfolding value_at value_of shape_of forms
 text_passed form implicit start end entry info at text is found = rw (is, ← found) refl
+
+pub text_read : (form : ℕ) (implicit : ℤ) (start end entry : ℕ) (info : List ℕ) (at : ℕ) (text : List ℕ) → form ≡ dw_form_string → Some text ≡ text_at (take end info) at
+    → Some (value.Inline at) ≡ value_read (value_at form implicit start end entry info at)
+unfolding value_at value_of shape_of forms
+text_read form implicit start end entry info at text is found = rw (is, ← found) refl
 
 -- the values from a pair on: its value and those of the other pairs
 pub left_front : (info abbrevs : List ℕ) (head : Head) (entry pairs at : ℕ) (s : Spec) (next : ℕ) → IsPair abbrevs pairs s next

@@ -12,9 +12,11 @@ use Rattle.std.proofs.lemmas.List.Sums.{position_or_len_is}
 use Rattle.abi_base.specs.Dwarf.{dw_form_string}
 use Rattle.abi_base.specs.Numbers.{is_zero, text_at}
 use Rattle.dwarf_forms.specs.Values.{place_after, value_at}
+use Rattle.dwarf_forms.specs.declared.values.Value.TheVariants as value
 use Rattle.dwarf_tree.specs.declared.long_texts.LongText.{LongText}
+use Rattle.dwarf_tree.specs.Keeping.{value_read}
 use Rattle.dwarf_tree.specs.LongTexts.{IsKeptEnd, IsLongText, TextEnds}
-use Rattle.dwarf_tree.proofs.AskLemmas.{text_passed}
+use Rattle.dwarf_tree.proofs.AskLemmas.{text_passed, text_read}
 
 not_zero : (n : ℕ) → is_zero n ≡ false → n ≢ 0
 not_zero n apart same = eqb-false n 0 apart same
@@ -83,11 +85,15 @@ ends_as_kept info texts at to are kept =
 
 -- ---- a text as a value
 
--- a text that ends inside its unit is passed over
-pub text_behind : (form : ℕ) (implicit : ℤ) (start end entry : ℕ) (info : List ℕ) (at to : ℕ) → form ≡ dw_form_string → TextEnds info at to → to < end
-    → Ok (to + 1) ≡ place_after (value_at form implicit start end entry info at)
+-- a text that ends inside its unit is one of the unit
+record IsTextUpto (unit : List ℕ) (at to : ℕ) : Type 0 where
+  text : List ℕ
+  read : Some text ≡ text_at unit at
+  end : at + length text ≡ to
+
+in_unit : (end : ℕ) (info : List ℕ) (at to : ℕ) → TextEnds info at to → to < end → IsTextUpto (take end info) at to
 unfolding text_at
-text_behind form implicit start end entry info at to is ends inside =
+in_unit end info at to ends inside =
     let unit = take end info in
     let rest = drop at unit in
     let n = to - at in
@@ -102,6 +108,22 @@ text_behind form implicit start end entry info at to is ends inside =
     (λ _. eq-eqb (get_or rest n 0) 0 (read n (omega (arith, place, inside)) ∙ ap (λ (k : ℕ). get_or info k 0) place ∙ ends.zero)) in
     let found : position is_zero rest ≡ Some n =
     ap (λ (m : ℕ). cond (ltb m (length rest)) (Some m) None) counted ∙ ap (λ (b : Bool). cond b (Some n) None) (lt-ltb n (length rest) long) in
-    let text : Some (take n rest) ≡ text_at unit at = sym (ap (option_map (λ len. take len rest)) found) in
-    let len : at + length (take n rest) + 1 ≡ to + 1 = rw length-take (omega (arith, long, place)) in
-    ap (λ (m : ℕ). Ok m) (sym len) ∙ text_passed form implicit start end entry info at (take n rest) is text
+    record {
+      text = take n rest;
+      read = sym (ap (option_map (λ len. take len rest)) found);
+      end = rw length-take (omega (arith, long, place));
+    }
+
+-- it is passed over
+pub text_behind : (form : ℕ) (implicit : ℤ) (start end entry : ℕ) (info : List ℕ) (at to : ℕ) → form ≡ dw_form_string → TextEnds info at to → to < end
+    → Ok (to + 1) ≡ place_after (value_at form implicit start end entry info at)
+text_behind form implicit start end entry info at to is ends inside =
+    let found = in_unit end info at to ends inside in
+    ap (λ (m : ℕ). Ok (m + 1)) (sym found.end) ∙ text_passed form implicit start end entry info at found.text is found.read
+
+-- and its value is its offset
+pub text_there : (form : ℕ) (implicit : ℤ) (start end entry : ℕ) (info : List ℕ) (at to : ℕ) → form ≡ dw_form_string → TextEnds info at to → to < end
+    → Some (value.Inline at) ≡ value_read (value_at form implicit start end entry info at)
+text_there form implicit start end entry info at to is ends inside =
+    let found = in_unit end info at to ends inside in
+    text_read form implicit start end entry info at found.text is found.read

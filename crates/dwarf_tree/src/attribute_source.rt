@@ -64,17 +64,25 @@ pub(crate) fn names_of(specs: &[Spec]) -> u64
     names
 }
 
-// The value of one attribute of an entry, if it has no fault.
+// The value of one attribute of an entry, if it has no fault. Such a value of an inline string is its offset: only the end of the string
+// is looked for.
 #[inline(always)]
-fn value_in(info: &[u8], head: Head, kept: EntryHead, spec: Spec, at: usize) -> Option<Value>
-    requires { head.end ≤ length info.now }
-    ensures { result ≡ value_read (value_at spec.form spec.implicit head.offset head.end kept.offset info.now at) }
+fn value_in(asked: &AttributeSource<'_>, kept: EntryHead, spec: Spec, at: usize) -> Option<Value>
+    requires inside { asked.now.head.now.end ≤ length asked.now.info.now }
+    requires texts { All (IsLongText asked.now.info.now) asked.now.long_texts.now }
+    ensures { result ≡ value_read (value_at spec.form spec.implicit asked.now.head.now.offset asked.now.head.now.end kept.offset asked.now.info.now at) }
 {
+    let end = asked.head.end.get();
+    if spec.form == DW_FORM_string {
+        if let Some(_) = end_of_text(asked.info, asked.long_texts, end as usize, at) {
+            return Some(Value::Inline { from: at as u64 });
+        }
+    }
     let unit = UnitSpan {
-        start: head.offset.get(),
-        end: head.end.get(),
+        start: asked.head.offset.get(),
+        end,
     };
-    match value(info, unit, u64::from(kept.offset), spec, at) {
+    match value(asked.info, unit, u64::from(kept.offset), spec, at) {
         Ok((found, _)) => Some(found),
         Err(_) => None,
     }
@@ -170,7 +178,7 @@ fn first_value(asked: &AttributeSource<'_>, kept: EntryHead, name: u64) -> Optio
             return None;
         };
         if spec.attribute == name {
-            return value_in(asked.info, *asked.head, kept, spec, from);
+            return value_in(asked, kept, spec, from);
         }
         match end_in(asked, kept, spec, from) {
             Ok(after) => {
@@ -202,11 +210,10 @@ pub(crate) fn value_of(asked: &AttributeSource<'_>, name: u64) -> Option<Value>
     requires shape { IsLayout asked.now.abbrevs.now asked.now.slots.now asked.now.shape.now }
     ensures { result ≡ asked_value asked.now name }
 {
-    let head = *asked.head;
     let Some(slot) = slot_for(asked.slots, *asked.shape, name) else {
         return walked(asked, name);
     };
-    let end = head.end.get();
+    let end = asked.head.end.get();
     let Some((_, after)) = uleb(&asked.info[..end as usize], asked.stored.offset as usize) else {
         return None;
     };
@@ -219,7 +226,7 @@ pub(crate) fn value_of(asked: &AttributeSource<'_>, name: u64) -> Option<Value>
         form: slot.form,
     };
     let kept = shaped(*asked.shape, asked.stored);
-    value_in(asked.info, head, kept, plain(pair), at)
+    value_in(asked, kept, plain(pair), at)
 }
 
 // The four-byte number that encodes the first value of an attribute of a stored entry, if a slot of its shape gives the value's

@@ -1,5 +1,6 @@
-// Long texts in the bytes of entries. A text ends at the first byte 0, so a look-up that passes over a text would read all of it. The
-// ends of long texts are therefore found once, and a look-up reads no more of a text than its first bytes.
+// Long texts in the bytes of entries. A text ends at the first byte 0, so a look-up that passes over a text, or that asks whether an
+// attribute has one, would read all of it. The ends of long texts are therefore found once, and such a look-up reads no more of a text
+// than its first bytes.
 ghost use Rattle.std.specs.Prelude.{◌≡◌, ◌<◌, ◌≤◌, All, IfOk, IfSome, length};
 ghost use Rattle.dwarf_tree.specs.LongTexts.{IsKeptEnd, IsLongText, TextEnds};
 
