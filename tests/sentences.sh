@@ -445,22 +445,13 @@ done
 
 # ---- each sentence has its row
 
-# Sentences that no file can cause: nothing finds the faults 41 and 42, whose numbers are reserved (docs/DECISIONS.md).
-cat >never <<'END_OF_LIST'
-its table of needed versions is damaged
-needs a version that is not named
-END_OF_LIST
 # The texts of the crate explain for faults and their places; {..} stands for anything.
 sed 's,//.*,,' "$root"/crates/explain/src/{faults,files}.rt | grep -o '[^b]"[^"]*"' >texts
 sed 's,//.*,,' "$root/crates/explain/src/sentence.rt" | grep -o '"[^"]*{[^"]*"' >>texts
 sed -i 's/^[^"]*"//; s/"$//; s/{[^}]*}/.*/g' texts
 [ "$(wc -l <texts)" -ge 60 ] || fail "the sources have $(wc -l <texts) texts"
 while read -r text; do
-    if grep -qxF -e "$text" never; then
-        ! grep -q -e "$text" said || fail "a file can be made for: $text"
-    else
-        grep -q -e "$text" said || fail "no row for: $text"
-    fi
+    grep -q -e "$text" said || fail "no row for: $text"
 done <texts
 passed "each sentence has its row"
 

@@ -1,65 +1,31 @@
-"""The numbers and names of faults and refusals (docs/SPECIFICATION.md, "Faults", "Rule files", "Certificates"), and of limits
-(docs/LIMITS.md)."""
+"""The numbers and names of faults, from the tables of docs/SPECIFICATION.md; those of certificates and refusals; and the words of
+limits (docs/LIMITS.md)."""
 
-HEADERS = {
-    1: "ShortFile",
-    2: "NotElf",
-    3: "Class",
-    4: "Data",
-    5: "Version",
-    6: "NotShared",
-    7: "Machine",
-    8: "SectionTable",
-    9: "SectionRange",
-    10: "SectionName",
-    11: "Compressed",
-}
-SYMBOLS = {
-    12: "NoDynamicSymbols",
-    13: "SymbolTable",
-    14: "DynamicTable",
-    15: "VersionTable",
-    16: "VersionDefinition",
-    17: "VersionIndex",
-    18: "DuplicateExport",
-}
-ENTRIES = {
-    20: "UnitHeader",
-    21: "DwarfVersion",
-    22: "UnitType",
-    23: "AddressSize",
-    24: "Dwarf64",
-    25: "Abbrev",
-    26: "AbbrevCode",
-    27: "Form",
-    28: "Cut",
-    29: "Tree",
-    33: "Language",
-    38: "Supplementary",
-    43: "TypeOffset",
-}
-SAID = {
-    30: "Text",
-    31: "Index",
-    32: "Ranges",
-    34: "Reference",
-    35: "Shape",
-    36: "TooDeep",
-    37: "TooLarge",
-    39: "OriginTooDeep",
-}
-LONG = {40: "TooLong"}
-RULES = {
-    50: "BadText",
-    51: "Line",
-    52: "Section",
-    53: "Property",
-    54: "EmptyRule",
-    55: "BadPattern",
-    56: "LongPattern",
-    57: "Repeated",
-    58: "Brace",
-}
+import re
+from pathlib import Path
+
+SPECIFICATION = (Path(__file__).resolve().parents[2] / "docs" / "SPECIFICATION.md").read_text()
+
+
+def rows(section: str, row: str) -> dict[int, str]:
+    """The numbers and names in the rows of a section's tables."""
+    text = SPECIFICATION.split(f"\n## {section}\n")[1].split("\n## ")[0]
+    return {int(number): name for number, name in re.findall(row, text, re.MULTILINE)}
+
+
+def among(faults: dict[int, str], numbers: range) -> dict[int, str]:
+    """The faults with these numbers."""
+    return {number: name for number, name in faults.items() if number in numbers}
+
+
+FAULTS = rows("Faults", r"^\| (\d+) \| (\w+) \|")
+HEADERS = among(FAULTS, range(1, 12))
+SYMBOLS = among(FAULTS, range(12, 20))
+LONG = among(FAULTS, range(40, 41))
+APPLICATIONS = among(FAULTS, range(41, 43))
+ENTRIES = {number: name for number, name in FAULTS.items() if number not in HEADERS | SYMBOLS | LONG | APPLICATIONS}
+SAID = rows("What entries say", r"^\| (\d+) (\w+) \|") | rows("Types from entries", r"^\| (\d+) (\w+) \|")
+RULES = rows("Rule files", r"^\| (\d+) \| (\w+) \|")
 CERTIFICATES = {60: "Line", 61: "Order", 62: "End"}
 REFUSALS = {
     70: "OtherInput",

@@ -11,7 +11,7 @@ from hostile.layouts import typedefs
 
 from . import damage, texts
 from .answers import complaint
-from .faults import LIMITS
+from .faults import ENTRIES, HEADERS, LIMITS, RULES, SAID, SYMBOLS
 from .parts import apart
 from .runs import MOST_RUNS, Answer, Runner
 from .trials import agree_with_entries, same_fault
@@ -69,6 +69,11 @@ def test_limits_of_the_page_are_known() -> None:
     table = page.read_text().split("| What is counted | Words |")[1].split("\n\n")[0]
     words = {row.split(" | ")[1] for row in table.splitlines()[2:]}
     assert len(words) > 20 and words <= LIMITS, words - LIMITS
+
+
+def test_faults_of_the_page_are_found() -> None:
+    counts = [len(faults) for faults in (HEADERS, SYMBOLS, ENTRIES, SAID, RULES)]
+    assert counts == [11, 7, 13, 8, 9], counts
 
 
 def unreadable(which: str, fault: str) -> Answer:

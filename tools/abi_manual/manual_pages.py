@@ -137,7 +137,7 @@ def _statuses(manual: Manual) -> Iterator[str]:
         yield f"\\fB{status['number']}\\fR"
         yield from sentences(status["text"])
     yield ".PP"
-    yield "With 2, 3, 4 and 6 a sentence on standard error says what is wrong."
+    yield "With each status from 2 on, a sentence on standard error says what is wrong."
 
 
 def _examples(examples: Iterable[dict[str, str]]) -> Iterator[str]:
