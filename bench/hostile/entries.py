@@ -350,6 +350,39 @@ def origin_behind_text(count: int) -> Case:
     return listed(library(info, [0x1000], further))
 
 
+def core_declared_by_text(count: int) -> Case:
+    """Typedefs of a structure whose attribute `DW_AT_declaration` has a long text as its value."""
+    info = Info()
+    info.begin()
+    whole = info.add(FREE, u32(8), b"t" * (20 * count) + b"\0")
+    info.close()
+    info.function(0x1000, *[info.typedef("", whole) for _ in range(count)])
+    info.close()
+    info.end()
+    pairs = ((AT_BYTE_SIZE, DATA4), (AT_DECLARATION, STRING))
+    return listed(library(info, [0x1000], [Abbreviation(FREE, STRUCTURE, True, pairs)]))
+
+
+def origin_named_by_text(count: int) -> Case:
+    """Members that take their name, a long text, and their type from one other member."""
+    info = Info()
+    info.begin()
+    number = info.number()
+    origin = info.add(FREE, b"t" * (20 * count) + b"\0", u32(number))
+    whole = info.add(STRUCT, u32(8))
+    for _ in range(count):
+        info.add(FREE + 1, u32(origin))
+    info.close()
+    info.function(0x1000, info.pointer(whole))
+    info.close()
+    info.end()
+    further = [
+        Abbreviation(FREE, MEMBER, False, ((AT_NAME, STRING), (AT_TYPE, REF4))),
+        Abbreviation(FREE + 1, MEMBER, False, ((AT_ABSTRACT_ORIGIN, REF4),)),
+    ]
+    return listed(library(info, [0x1000], further))
+
+
 def typedefs_of_blocks(count: int) -> Case:
     """Typedefs of a function type with equally many children that are no parameters."""
     info = Info()
@@ -436,6 +469,8 @@ KINDS = [
     Kind("long_numbers", "n pointers behind 310 attributes whose numbers have ten bytes", long_numbers, 5000),
     Kind("core_behind_text", "n typedefs of a structure that has its size behind a text of 20 n bytes", core_behind_text, 3000),
     Kind("origin_behind_text", "n members that take their type from a member with a text of 20 n bytes", origin_behind_text, 3000),
+    Kind("core_declared_by_text", "n typedefs of a structure whose declaration is a text of 20 n bytes", core_declared_by_text, 3000),
+    Kind("origin_named_by_text", "n members that take a name of 20 n bytes from a member", origin_named_by_text, 3000),
     Kind("typedefs_of_blocks", "n typedefs of a type of functions with 20 n children that are no parameters", typedefs_of_blocks, 1000),
     Kind("one_origin_of_blocks", "n functions of one origin with 40 n children that are no parameters", one_origin_of_blocks, 500),
     Kind("chained_qualifiers", "n qualified types of a chain of 500 qualified types", chained_qualifiers, 5000),
