@@ -1,5 +1,5 @@
 -- One alike line.
-use Rattle.std.proofs.Common.{◌≡◌, ℕ, Bool, true, false, List, Option, Some, None, refl, sym, ◌∙◌, ap, subst, slice_get}
+use Rattle.std.proofs.Common.{◌≡◌, ℕ, Bool, true, false, List, Some, None, sym, ◌∙◌, ap, subst, slice_get}
 use Rattle.std.specs.Prelude.{◌↔◌, is_none}
 use Rattle.std.proofs.lemmas.Option.{same_Some, none-some}
 use Rattle.abi_base.proofs.lemmas.Options.{is_none-true}

@@ -1,7 +1,10 @@
 -- Exports as the code reads them.
 use Rattle.std.proofs.Common.{◌≡◌, ◌&&◌, not, ℕ, Bool, true, false, List, Some, None, refl, sym, ◌∙◌, ap, subst, slice_get, slice_index_or}
 use Rattle.std.specs.Prelude.{◌↔◌, option_and_then}
-use Rattle.std.proofs.lemmas.Option.{none-some, same_Some}
+use Rattle.std.specs.Option.{option_map}
+use Rattle.std.proofs.lemmas.Option.{none-some, same_Some, slice_get-map}
+use Rattle.abi_types.specs.declared.export.Export.{Export}
+use Rattle.abi_types.specs.Plain.{plain_export, plain_exports}
 use Rattle.abi_types.specs.Exports.{PlainExport}
 use Rattle.elf_bind.specs.Binding.{bind_to}
 use Rattle.cert_check.specs.Compatible.{Sides, IsCompared, bound, KeepsExport, is_typed}
@@ -9,11 +12,17 @@ use Rattle.cert_check.specs.Accepted.{Case, KeepsRules, KeepsRoot}
 use Rattle.cert_check.specs.CertifiedPair.{has_root_line}
 use Rattle.pair_rules.proofs.lemmas.Truths.{always}
 
-pub bound_none : (s : Sides) (e : PlainExport) → bind_to s.new.exports e ≡ None → bound s e ≡ None
-bound_none s e none = ap (option_and_then (slice_get s.new.exports)) none
+pub export_read : (exports : List Export) (plain : List PlainExport) (k : ℕ) (e : Export) → plain_exports exports ≡ plain → slice_get exports k ≡ Some e → slice_get plain k ≡ Some (plain_export e)
+export_read exports plain k e same at = ap (λ (es : List PlainExport). slice_get es k) (sym same) ∙ slice_get-map plain_export exports k ∙ ap (option_map plain_export) at
 
-pub bound_at : (s : Sides) (e : PlainExport) (place : ℕ) → bind_to s.new.exports e ≡ Some place → bound s e ≡ slice_get s.new.exports place
-bound_at s e place is = ap (option_and_then (slice_get s.new.exports)) is
+pub none_read : (exports : List Export) (plain : List PlainExport) (k : ℕ) → plain_exports exports ≡ plain → slice_get exports k ≡ None → slice_get plain k ≡ None
+none_read exports plain k same at = ap (λ (es : List PlainExport). slice_get es k) (sym same) ∙ slice_get-map plain_export exports k ∙ ap (option_map plain_export) at
+
+pub bound_none : (exports : List PlainExport) (e : PlainExport) → bind_to exports e ≡ None → option_and_then (slice_get exports) (bind_to exports e) ≡ None
+bound_none exports e none = ap (option_and_then (slice_get exports)) none
+
+pub bound_at : (exports : List PlainExport) (e : PlainExport) (place : ℕ) → bind_to exports e ≡ Some place → option_and_then (slice_get exports) (bind_to exports e) ≡ slice_get exports place
+bound_at exports e place is = ap (option_and_then (slice_get exports)) is
 
 -- ---- an export that is not compared keeps all
 

@@ -5,7 +5,7 @@ use Rattle.std.specs.List.{range_with_len, Contains}
 use Rattle.std.proofs.lemmas.Bool.{cases_order}
 use Rattle.std.proofs.lemmas.List.Elements.{filter_map-append}
 use Rattle.std.proofs.lemmas.Option.{none-some}
-use Rattle.abi_base.proofs.lemmas.Ranges.{range_suc, below_more}
+use Rattle.abi_base.proofs.lemmas.Ranges.{below_more}
 use Rattle.abi_base.proofs.lemmas.Lists.{contains_at, at_contains}
 use Rattle.cert_check.specs.Given.{given_below, AreGivenInOrder, StandInOrder}
 

@@ -1,5 +1,5 @@
 -- What is accepted with marks that mark nothing is accepted with any others that mark nothing.
-use Rattle.std.proofs.Common.{◌≡◌, ◌<◌, ℕ, false, Some, ◌∙◌}
+use Rattle.std.proofs.Common.{◌≡◌, ◌<◌, ℕ, Some, ◌∙◌}
 use Rattle.std.specs.Prelude.{◌↔◌}
 use Rattle.abi_types.specs.declared.library.Marks.{Marks}
 use Rattle.abi_types.specs.Exports.{PlainExport}

@@ -8,7 +8,8 @@ ghost use Rattle.cert_check.specs.Bindings.{IsOwned, FindsUnbound, FindsUnowned}
 ghost use Rattle.cert_check.specs.Bindings as bindings;
 ghost use Rattle.cert_check.specs.CertifiedPair.{case_of};
 
-use crate::certified_pair::{CertifiedPair, bound_to, export_at, export_count, is_compared};
+use crate::certified_pair::{CertifiedPair, is_compared};
+use crate::library_exports::{bound_to, export_at, export_count};
 use crate::refused::{Refused, RefusedKind};
 use abi_types::Export;
 use cert_text::binds_of;
@@ -38,7 +39,7 @@ fn has_binding(ground: &CertifiedPair, export: &Export) -> bool
         None => return false,
         Some(said) => said,
     };
-    match bound_to(ground, export) {
+    match bound_to(export, ground.new) {
         None => false,
         Some(partner) => same_symbol(said, partner.symbol),
     }
@@ -49,8 +50,8 @@ fn first_unbound(ground: &CertifiedPair) -> Option<u32>
     ensures { FindsUnbound (case_of ground.now) result }
 {
     ground.old.known();
-    for k in 0..export_count(ground) {
-        let export = export_at(ground, k);
+    for k in 0..export_count(ground.old) {
+        let export = export_at(ground.old, k);
         if is_compared(ground, k) && !has_binding(ground, export) {
             return Some(export.symbol);
         }

@@ -1,16 +1,15 @@
 // The input of a check: a certificate, and the pair of libraries against which it is checked.
-ghost use Rattle.std.specs.Prelude.{◌≡◌, ◌<◌, not, length, false, slice_index_or, slice_get, Some, None, IfSome, MatchOption};
+ghost use Rattle.std.specs.Prelude.{◌≡◌, ◌<◌, not, length, false, slice_index_or, slice_get, IfSome};
 ghost use Rattle.std.specs.Option.{option_map};
 ghost use Rattle.abi_types.specs.Graphs.{view_at, node_of};
-ghost use Rattle.abi_types.specs.Plain.{plain_export};
 ghost use Rattle.pair_rules.specs.Steps as spec;
-ghost use Rattle.cert_check.specs.Compatible.{task_of, bound};
+ghost use Rattle.cert_check.specs.Compatible.{task_of};
 ghost use Rattle.cert_check.specs.Accepted.{symbol_of};
 ghost use Rattle.cert_check.specs.CertifiedPair.{case_of, NamesNodes};
 
-use abi_types::{Export, Index, Library, Marks, NewIx, OldIx, View, Way};
+use crate::library_exports::export_at;
+use abi_types::{Index, Library, Marks, NewIx, OldIx, View, Way};
 use cert_text::Cert;
-use elf_bind::bind_in;
 
 /// Two libraries, the marks of the old one, and the certificate to be checked.
 #[derive(Clone, Copy)]
@@ -68,49 +67,10 @@ pub fn is_compared(ground: &CertifiedPair, k: usize) -> bool
     }
 }
 
-/// The number of the old library's exports.
-pub fn export_count(ground: &CertifiedPair) -> usize
-    ensures { result ≡ length ground.now.old.now.exports }
-{
-    ground.old.exports().len()
-}
-
-/// The old export at a position.
-#[tactic(auto, using(crate::proofs::lemmas::Exports::export_read))]
-pub fn export_at<'x, 'o>(ground: &CertifiedPair<'x, 'o, '_>, k: usize) -> &'x Export<'o>
-    requires { k < length ground.now.old.now.exports }
-    ensures { slice_get ground.now.old.now.exports k ≡ Some (plain_export result.now) }
-{
-    let exports = ground.old.exports();
-    &exports[k]
-}
-
 /// The symbol number of the old export at a position.
 pub fn symbol_at(ground: &CertifiedPair, k: usize) -> u64
     requires { k < length ground.now.old.now.exports }
     ensures { result ≡ symbol_of (slice_get ground.now.old.now.exports k) }
 {
-    u64::from(export_at(ground, k).symbol)
-}
-
-// The new export at a position, where there is one.
-#[tactic(auto, using(crate::proofs::lemmas::Exports::none_read))]
-fn new_export_at<'x, 'n>(ground: &CertifiedPair<'x, '_, 'n>, place: usize) -> Option<&'x Export<'n>>
-    ensures { MatchOption result (slice_get ground.now.new.now.exports place ≡ None) (λ export. slice_get ground.now.new.now.exports place ≡ Some (plain_export export.now)) }
-{
-    ground.new.exports().get(place)
-}
-
-/// The new export to which an old one binds, or `None` if it binds to none.
-#[tactic(auto, using(crate::proofs::ExportLemmas::bound_none, crate::proofs::ExportLemmas::bound_at))]
-pub fn bound_to<'x, 'n>(
-    ground: &CertifiedPair<'x, '_, 'n>,
-    export: &Export,
-) -> Option<&'x Export<'n>>
-    ensures { MatchOption result (bound (case_of ground.now).sides (plain_export export.now) ≡ None) (λ partner. bound (case_of ground.now).sides (plain_export export.now) ≡ Some (plain_export partner.now)) }
-{
-    match bind_in(export, ground.new) {
-        None => None,
-        Some(place) => new_export_at(ground, place),
-    }
+    u64::from(export_at(ground.old, k).symbol)
 }

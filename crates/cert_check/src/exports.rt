@@ -1,27 +1,16 @@
 // The rules of exports, and the pair lines of their types.
 ghost use Rattle.std.specs.Prelude.{◌≡◌, ◌<◌, ◌↔◌, IsTrue, length};
 ghost use Rattle.abi_types.specs.Plain.{plain_export};
-ghost use Rattle.cert_check.specs.Compatible.{KeepsExport};
-ghost use Rattle.cert_check.specs.Compatible as compatible;
 ghost use Rattle.cert_check.specs.Accepted.{Settles, Rules, Root, KeepsRules, KeepsRoot, each};
 ghost use Rattle.cert_check.specs.Finds.{FindsFirst};
 ghost use Rattle.cert_check.specs.CertifiedPair.{case_of};
 ghost use Rattle.cert_check.specs.CertifiedPair as certified_pair_spec;
 
-use crate::certified_pair::{
-    CertifiedPair, bound_to, export_at, export_count, is_compared, symbol_at,
-};
+use crate::certified_pair::{CertifiedPair, is_compared, symbol_at};
+use crate::library_exports::{bound_to, export_at, export_count, is_typed, keeps_export};
 use crate::lookups::{is_line, rep};
 use crate::refused::{Refused, RefusedKind};
 use abi_types::{Export, Way};
-use pair_rules::export_breaks;
-
-// Whether two exports, of which the first binds to the second, break no rule.
-fn keeps_export(old: &Export, new: &Export) -> bool
-    ensures { IsTrue result ↔ KeepsExport (plain_export old.now) (plain_export new.now) }
-{
-    export_breaks(old, new) == [false, false, false]
-}
 
 // Whether the old export at a position keeps the rules, if it is compared and binds.
 fn keeps_rules(ground: &CertifiedPair, k: usize) -> bool
@@ -31,8 +20,8 @@ fn keeps_rules(ground: &CertifiedPair, k: usize) -> bool
     if !is_compared(ground, k) {
         return true;
     }
-    let export = export_at(ground, k);
-    match bound_to(ground, export) {
+    let export = export_at(ground.old, k);
+    match bound_to(export, ground.new) {
         None => true,
         Some(partner) => keeps_export(export, partner),
     }
@@ -42,7 +31,7 @@ fn keeps_rules(ground: &CertifiedPair, k: usize) -> bool
 fn first_broken(ground: &CertifiedPair) -> Option<usize>
     ensures { FindsFirst (KeepsRules (case_of ground.now)) (length ground.now.old.now.exports) result }
 {
-    for k in 0..export_count(ground) {
+    for k in 0..export_count(ground.old) {
         if !keeps_rules(ground, k) {
             return Some(k);
         }
@@ -61,13 +50,6 @@ pub fn check_rules(ground: &CertifiedPair) -> Result<(), Refused>
             at: symbol_at(ground, k),
         }),
     }
-}
-
-// Whether an export has a type.
-fn is_typed(export: &Export) -> bool
-    ensures { result ≡ compatible.is_typed (plain_export export.now) }
-{
-    export.entry != 0
 }
 
 // Whether the types of two exports have a pair line by their representatives, by value.
@@ -89,8 +71,8 @@ fn keeps_root(ground: &CertifiedPair, k: usize) -> bool
     if !is_compared(ground, k) {
         return true;
     }
-    let export = export_at(ground, k);
-    let partner = match bound_to(ground, export) {
+    let export = export_at(ground.old, k);
+    let partner = match bound_to(export, ground.new) {
         None => return true,
         Some(partner) => partner,
     };
@@ -107,7 +89,7 @@ fn keeps_root(ground: &CertifiedPair, k: usize) -> bool
 fn first_rootless(ground: &CertifiedPair) -> Option<usize>
     ensures { FindsFirst (KeepsRoot (case_of ground.now)) (length ground.now.old.now.exports) result }
 {
-    for k in 0..export_count(ground) {
+    for k in 0..export_count(ground.old) {
         if !keeps_root(ground, k) {
             return Some(k);
         }

@@ -138,18 +138,10 @@ fn same_part<Ix: Index>(
                 value: other_value,
             },
         ) => same_bytes(name, other_name) && *value == *other_value,
-        (Part::Target { to }, Part::Target { to: other_to }) => {
-            same_class(graph, lines, *to, *other_to)
-        }
-        (Part::Element { to }, Part::Element { to: other_to }) => {
-            same_class(graph, lines, *to, *other_to)
-        }
-        (Part::Outcome { to }, Part::Outcome { to: other_to }) => {
-            same_class(graph, lines, *to, *other_to)
-        }
-        (Part::Param { to }, Part::Param { to: other_to }) => {
-            same_class(graph, lines, *to, *other_to)
-        }
+        (Part::Target { to }, Part::Target { to: peer }) => same_class(graph, lines, *to, *peer),
+        (Part::Element { to }, Part::Element { to: peer }) => same_class(graph, lines, *to, *peer),
+        (Part::Outcome { to }, Part::Outcome { to: peer }) => same_class(graph, lines, *to, *peer),
+        (Part::Param { to }, Part::Param { to: peer }) => same_class(graph, lines, *to, *peer),
         _ => false,
     }
 }

@@ -1,43 +1,18 @@
 // What the exports of the first library bind to, through the middle library and directly in the last.
-ghost use Rattle.std.specs.Prelude.{◌≡◌, ◌<◌, ◌↔◌, ◌||◌, not, IsTrue, length, option_and_then, MatchOption, slice_get, None, Some};
+ghost use Rattle.std.specs.Prelude.{◌≡◌, ◌<◌, ◌↔◌, ◌||◌, not, IsTrue, length, MatchOption, slice_get};
 ghost use Rattle.abi_types.specs.Plain.{plain_export};
-ghost use Rattle.elf_bind.specs.Binding.{bind_to};
 ghost use Rattle.cert_check.specs.Accepted.{symbol_of};
-ghost use Rattle.cert_check.specs.Compatible.{KeepsExport};
 ghost use Rattle.cert_check.specs.Compatible as spec;
 ghost use Rattle.cert_check.specs.Finds.{FindsFirst};
 ghost use Rattle.cert_compose.specs.Between.{BindsThrough, IsLink, KeepsBinding, KeepsRules, KeepsTyped};
 ghost use Rattle.cert_compose.specs.CertifiedChain.{chain_of};
 
 use crate::certified_chain::CertifiedChain;
-use abi_types::{Export, Index, Library, NewIx};
+use abi_types::Export;
+use cert_check::library_exports::{
+    bound_to, export_at, export_count, find_at, is_typed, keeps_export,
+};
 use elf_bind::bind_in;
-use pair_rules::export_breaks;
-
-// The export of a library at a position.
-#[tactic(auto, using(cert_check::proofs::lemmas::Exports::export_read))]
-fn export_at<'x, 'o, Ix: Index>(library: &'x Library<'o, Ix>, k: usize) -> &'x Export<'o>
-    requires { k < length library.now.exports }
-    ensures { slice_get library.now.exports k ≡ Some (plain_export result.now) }
-{
-    let exports = library.exports();
-    &exports[k]
-}
-
-// The export of a library at a position, where there is one.
-#[tactic(auto, using(cert_check::proofs::lemmas::Exports::none_read))]
-fn find_at<'x, 'n, Ix: Index>(library: &'x Library<'n, Ix>, place: usize) -> Option<&'x Export<'n>>
-    ensures { MatchOption result (slice_get library.now.exports place ≡ None) (λ export. slice_get library.now.exports place ≡ Some (plain_export export.now)) }
-{
-    library.exports().get(place)
-}
-
-// The number of exports of a library.
-fn export_count<Ix: Index>(library: &Library<Ix>) -> usize
-    ensures { result ≡ length library.now.exports }
-{
-    library.exports().len()
-}
 
 /// The symbol number of the first library's export at a position.
 pub fn symbol_at(ground: &CertifiedChain, k: usize) -> u64
@@ -45,18 +20,6 @@ pub fn symbol_at(ground: &CertifiedChain, k: usize) -> u64
     ensures { result ≡ symbol_of (slice_get ground.now.first.now.exports k) }
 {
     u64::from(export_at(ground.first, k).symbol)
-}
-
-// The export of a library to which another one binds.
-#[tactic(auto, using(cert_check::proofs::lemmas::Exports::bound_none, cert_check::proofs::lemmas::Exports::bound_at))]
-fn bound_to<'x, 'n>(export: &Export, new: &'x Library<'n, NewIx>) -> Option<&'x Export<'n>>
-    ensures { MatchOption result (option_and_then (slice_get new.now.exports) (bind_to new.now.exports (plain_export export.now)) ≡ None)
-        (λ partner. option_and_then (slice_get new.now.exports) (bind_to new.now.exports (plain_export export.now)) ≡ Some (plain_export partner.now)) }
-{
-    match bind_in(export, new) {
-        None => None,
-        Some(place) => find_at(new, place),
-    }
 }
 
 /// The exports to which an export binds in the middle library and in the last one.
@@ -106,13 +69,6 @@ fn keeps_binding(ground: &CertifiedChain, k: usize) -> bool
     }
 }
 
-// Whether two exports, of which the first binds to the second, break no rule.
-fn keeps_export(old: &Export, new: &Export) -> bool
-    ensures { IsTrue result ↔ KeepsExport (plain_export old.now) (plain_export new.now) }
-{
-    export_breaks(old, new) == [false, false, false]
-}
-
 // Whether the export at a position keeps the rules against the one to which it binds in the last library.
 fn keeps_rules(ground: &CertifiedChain, k: usize) -> bool
     requires { k < length ground.now.first.now.exports }
@@ -123,13 +79,6 @@ fn keeps_rules(ground: &CertifiedChain, k: usize) -> bool
         None => true,
         Some(link) => keeps_export(export, link.partner),
     }
-}
-
-// Whether an export has a type.
-fn is_typed(export: &Export) -> bool
-    ensures { result ≡ spec.is_typed (plain_export export.now) }
-{
-    export.entry != 0
 }
 
 // Whether the export between two has a type, if those two have types.

@@ -1,13 +1,13 @@
 // Where the comparison of the types of two libraries begins.
-ghost use Rattle.std.specs.Prelude.{◌≡◌, ◌<◌, length, false, Some, None, IfOk, MatchOption, slice_get, slice_index_or};
+ghost use Rattle.std.specs.Prelude.{◌≡◌, ◌<◌, length, false, Some, None, IfOk, MatchOption, slice_index_or};
 ghost use Rattle.abi_types.specs.Plain.{plain_export};
 ghost use Rattle.cert_check.specs.Compatible.{root_to, typed_root, typed_roots};
-ghost use Rattle.cert_check.specs.Compatible as spec;
 ghost use Rattle.pair_compare.specs.BoundPair.{IsBinding, partner, sides_of};
 
 use crate::bound_pair::BoundPair;
 use abi_base::NoMemory;
 use abi_types::Export;
+use cert_check::library_exports::{export_at, find_at, is_typed};
 use pair_explorer::Root;
 use std::alloc::Global;
 
@@ -21,16 +21,6 @@ fn is_dropped(ground: &BoundPair, k: usize) -> bool
     }
 }
 
-// The old export at a position.
-#[tactic(auto, using(cert_check::proofs::lemmas::Exports::export_read))]
-fn export_at<'x, 'o>(ground: &BoundPair<'x, 'o, '_>, k: usize) -> &'x Export<'o>
-    requires { k < length ground.now.old.now.exports }
-    ensures { slice_get ground.now.old.now.exports k ≡ Some (plain_export result.now) }
-{
-    let exports = ground.old.exports();
-    &exports[k]
-}
-
 // The position of the new export that the old one at a position binds to.
 fn place_at(ground: &BoundPair, k: usize) -> Option<usize>
     ensures { result ≡ slice_index_or ground.now.bound.now k None }
@@ -41,29 +31,14 @@ fn place_at(ground: &BoundPair, k: usize) -> Option<usize>
     }
 }
 
-// The new export at a position, where there is one.
-#[tactic(auto, using(cert_check::proofs::lemmas::Exports::export_read, cert_check::proofs::lemmas::Exports::none_read))]
-fn new_export_at<'x, 'n>(ground: &BoundPair<'x, '_, 'n>, place: usize) -> Option<&'x Export<'n>>
-    ensures { MatchOption result (slice_get ground.now.new.now.exports place ≡ None) (λ export. slice_get ground.now.new.now.exports place ≡ Some (plain_export export.now)) }
-{
-    ground.new.exports().get(place)
-}
-
 // The new export that the old one at a position binds to.
 fn partner_at<'x, 'n>(ground: &BoundPair<'x, '_, 'n>, k: usize) -> Option<&'x Export<'n>>
     ensures { MatchOption result (partner ground.now k ≡ None) (λ export. partner ground.now k ≡ Some (plain_export export.now)) }
 {
     match place_at(ground, k) {
         None => None,
-        Some(place) => new_export_at(ground, place),
+        Some(place) => find_at(ground.new, place),
     }
-}
-
-// Whether an export has a type.
-fn is_typed(export: &Export) -> bool
-    ensures { result ≡ spec.is_typed (plain_export export.now) }
-{
-    export.entry != 0
 }
 
 // The types of two exports, if both have one.
@@ -95,7 +70,7 @@ fn root_at(ground: &BoundPair, k: usize) -> Option<Root>
     if is_dropped(ground, k) {
         return None;
     }
-    let old = export_at(ground, k);
+    let old = export_at(ground.old, k);
     ground.old.known();
     match partner_at(ground, k) {
         None => None,

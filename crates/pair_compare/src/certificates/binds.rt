@@ -1,15 +1,13 @@
 // The bind lines of a certificate.
-ghost use Rattle.std.specs.Prelude.{◌≡◌, ◌<◌, false, length, option_and_then, IfOk, MatchOption, None, Some, slice_get, slice_index_or};
-ghost use Rattle.abi_types.specs.Plain.{plain_export};
-ghost use Rattle.elf_bind.specs.Binding.{bind_to};
+ghost use Rattle.std.specs.Prelude.{◌≡◌, ◌<◌, false, length, IfOk, slice_index_or};
 ghost use Rattle.cert_check.specs.Compatible.{sides};
 ghost use Rattle.pair_compare.specs.certificates.Lines as spec;
 
 use crate::certificates::lists::push_some;
 use abi_base::{List, NoMemory};
-use abi_types::{Export, Index, Library, Marks, NewIx, OldIx};
+use abi_types::{Library, Marks, NewIx, OldIx};
 use cert_check::laws::lines_stand_in_the_order_of_their_numbers;
-use elf_bind::bind_in;
+use cert_check::library_exports::{bound_to, export_at, export_count};
 use std::alloc::Global;
 
 // Whether the old export at a position is excluded from the comparison.
@@ -19,43 +17,6 @@ fn is_dropped(marks: &Marks, k: usize) -> bool
     match marks.exports.as_slice().get(k) {
         Some(dropped) => *dropped,
         None => false,
-    }
-}
-
-// The number of exports of a library.
-fn export_count<Ix: Index>(library: &Library<Ix>) -> usize
-    ensures { result ≡ length library.now.exports }
-{
-    library.exports().len()
-}
-
-// The export of a library at a position.
-#[tactic(auto, using(cert_check::proofs::lemmas::Exports::export_read))]
-fn export_at<'x, 'o, Ix: Index>(library: &'x Library<'o, Ix>, k: usize) -> &'x Export<'o>
-    requires { k < length library.now.exports }
-    ensures { slice_get library.now.exports k ≡ Some (plain_export result.now) }
-{
-    let exports = library.exports();
-    &exports[k]
-}
-
-// The export of a library at a position, where there is one.
-#[tactic(auto, using(cert_check::proofs::lemmas::Exports::none_read))]
-fn find_at<'x, 'n, Ix: Index>(library: &'x Library<'n, Ix>, place: usize) -> Option<&'x Export<'n>>
-    ensures { MatchOption result (slice_get library.now.exports place ≡ None) (λ export. slice_get library.now.exports place ≡ Some (plain_export export.now)) }
-{
-    library.exports().get(place)
-}
-
-// The new export that an old one binds to.
-#[tactic(auto, using(cert_check::proofs::lemmas::Exports::bound_none, cert_check::proofs::lemmas::Exports::bound_at))]
-fn bound_to<'x, 'n>(export: &Export, new: &'x Library<'n, NewIx>) -> Option<&'x Export<'n>>
-    ensures { MatchOption result (option_and_then (slice_get new.now.exports) (bind_to new.now.exports (plain_export export.now)) ≡ None)
-        (λ partner. option_and_then (slice_get new.now.exports) (bind_to new.now.exports (plain_export export.now)) ≡ Some (plain_export partner.now)) }
-{
-    match bind_in(export, new) {
-        None => None,
-        Some(place) => find_at(new, place),
     }
 }
 

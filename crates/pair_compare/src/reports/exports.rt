@@ -10,10 +10,11 @@ ghost use Rattle.pair_compare.specs.reports.ExportRows.{changed_rows, gone_rows,
 ghost use Rattle.pair_compare.specs.reports.ExportRows as export_rows_spec;
 
 use crate::bound_pair::BoundPair;
-use crate::reports::lookups::{export_at, is_compared, partner};
+use crate::reports::lookups::{is_compared, partner};
 use crate::reports::row_list::RowList;
 use abi_base::NoMemory;
 use abi_types::{Export, Library, NewIx, Rule};
+use cert_check::library_exports::find_at;
 use elf_bind::same_name;
 use pair_rules::export_breaks;
 use report::{export_row, soname_row};
@@ -58,38 +59,39 @@ fn push_gone(
     rows.push(row)
 }
 
+/// An old export, and the new one to which it binds.
+#[derive(Clone, Copy)]
+struct BoundExport<'x, 'o, 'n> {
+    export: &'x Export<'o>,
+    partner: &'x Export<'n>,
+}
+
 // Adds the row of a rule, if it is broken.
 fn push_if(
     alloc: Global,
     rows: &mut RowList,
     is_broken: bool,
     rule: Rule,
-    old: &Export,
-    new: &Export,
+    bound: &BoundExport,
 ) -> Result<(), NoMemory>
-    ensures { OnOk result (rows.new ≡ rows.old ++ row_if is_broken (export_rows_spec.export_row rule (plain_export old.now) (plain_export new.now))) }
+    ensures { OnOk result (rows.new ≡ rows.old ++ row_if is_broken (export_rows_spec.export_row rule (plain_export bound.now.export.now) (plain_export bound.now.partner.now))) }
 {
     if !is_broken {
         return Ok(());
     }
-    let row = export_row(alloc, rule, old, new)?;
+    let row = export_row(alloc, rule, bound.export, bound.partner)?;
     rows.push(row)
 }
 
 // Adds the rows of an export that binds to another.
 #[tactic(auto, unfolding(crate::specs::reports::ExportRows::changed_rows))]
-fn push_changed(
-    alloc: Global,
-    rows: &mut RowList,
-    old: &Export,
-    new: &Export,
-) -> Result<(), NoMemory>
-    ensures { OnOk result (rows.new ≡ rows.old ++ changed_rows (plain_export old.now) (plain_export new.now)) }
+fn push_changed(alloc: Global, rows: &mut RowList, bound: &BoundExport) -> Result<(), NoMemory>
+    ensures { OnOk result (rows.new ≡ rows.old ++ changed_rows (plain_export bound.now.export.now) (plain_export bound.now.partner.now)) }
 {
-    let [kind_breaks, size_breaks, type_breaks] = export_breaks(old, new);
-    push_if(alloc, rows, kind_breaks, Rule::ExportKind, old, new)?;
-    push_if(alloc, rows, size_breaks, Rule::ExportSize, old, new)?;
-    push_if(alloc, rows, type_breaks, Rule::ExportType, old, new)
+    let [kind_breaks, size_breaks, type_breaks] = export_breaks(bound.export, bound.partner);
+    push_if(alloc, rows, kind_breaks, Rule::ExportKind, bound)?;
+    push_if(alloc, rows, size_breaks, Rule::ExportSize, bound)?;
+    push_if(alloc, rows, type_breaks, Rule::ExportType, bound)
 }
 
 // Whether some export of a library has a name.
@@ -111,7 +113,7 @@ fn push_bound(
     ensures { OnOk result (rows.new ≡ rows.old ++ rows_for (sides_of ground.now) (plain_export export.now)) }
 {
     match partner(ground.new, place) {
-        Some(new) => push_changed(alloc, rows, export, new),
+        Some(partner) => push_changed(alloc, rows, &BoundExport { export, partner }),
         None => push_gone(alloc, rows, export, is_named(ground.new, export.name)),
     }
 }
@@ -127,7 +129,7 @@ fn push_at(alloc: Global, rows: &mut RowList, ground: &BoundPair, k: usize) -> R
     if !is_compared(ground.marks, k) {
         return Ok(());
     }
-    match export_at(ground.old, k) {
+    match find_at(ground.old, k) {
         None => Ok(()),
         Some(export) => push_bound(alloc, rows, ground, export, ground.bound[k]),
     }

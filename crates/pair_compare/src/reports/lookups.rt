@@ -2,17 +2,8 @@
 ghost use Rattle.std.specs.Prelude.{◌≡◌, not, false, slice_get, slice_index_or, option_and_then, Some, None, MatchOption};
 ghost use Rattle.abi_types.specs.Plain.{plain_export};
 
-use abi_types::{Export, Index, Library, Marks, NewIx};
-
-/// The export at a position, or `None` past the end.
-pub fn export_at<'x, 'a, Ix: Index>(
-    library: &'x Library<'a, Ix>,
-    place: usize,
-) -> Option<&'x Export<'a>>
-    ensures { MatchOption result (slice_get library.now.exports place ≡ None) (λ export. slice_get library.now.exports place ≡ Some (plain_export export.now)) }
-{
-    library.exports().get(place)
-}
+use abi_types::{Export, Library, Marks, NewIx};
+use cert_check::library_exports::find_at;
 
 /// The new export at a position, or `None` where there is no position or nothing at it.
 pub fn partner<'x, 'n>(
@@ -23,7 +14,7 @@ pub fn partner<'x, 'n>(
 {
     match place {
         None => None,
-        Some(place) => export_at(library, place),
+        Some(place) => find_at(library, place),
     }
 }
 

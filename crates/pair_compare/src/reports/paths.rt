@@ -8,9 +8,9 @@ ghost use Rattle.pair_explorer.specs.Routes as routes;
 ghost use Rattle.pair_compare.specs.reports.PathTexts.{between, IsWalk};
 ghost use Rattle.pair_compare.specs.reports.PathTexts as path_texts;
 
-use crate::reports::lookups::export_at;
 use abi_base::NoMemory;
 use abi_types::{Export, Index, Library, OldIx, View, push_label};
+use cert_check::library_exports::find_at;
 use pair_explorer::Route;
 use report::push_step;
 use std::alloc::{AllocError, Global};
@@ -28,7 +28,7 @@ fn label_of(alloc: Global, export: &Export) -> Result<String, NoMemory>
 pub fn label_at(alloc: Global, library: &Library<OldIx>, export: u32) -> Result<String, NoMemory>
     ensures { IfOk result (λ text. string_bytes text ≡ path_texts.label_at library.now export) }
 {
-    match export_at(library, export as usize) {
+    match find_at(library, export as usize) {
         None => Ok(String::new(alloc)),
         Some(export) => label_of(alloc, export),
     }
@@ -38,7 +38,7 @@ pub fn label_at(alloc: Global, library: &Library<OldIx>, export: u32) -> Result<
 fn type_of(library: &Library<OldIx>, export: u32) -> OldIx
     ensures { result ≡ path_texts.type_of library.now export }
 {
-    match export_at(library, export as usize) {
+    match find_at(library, export as usize) {
         None => OldIx::of(0),
         Some(export) => match library.graph().find(export.entry) {
             None => OldIx::of(0),

@@ -9,7 +9,7 @@ use Rattle.pair_compare.proofs.reports.exports.push_bound.Goals as goal
 pub returns-in-Some : goal.returns-in-Some
 returns-in-Some c =
     subst (λ (rs : List Row). OnOk c.push_changed.result (c.push_changed.new.rows ≡ c.args.rows.now ++ rs))
-    (changed_for (sides_of c.args.ground.now) (plain_export c.args.export.now) c.args.place c.requires (plain_export c.in-Some.new.now) c.in-Some.ensures) c.push_changed.ensures
+    (changed_for (sides_of c.args.ground.now) (plain_export c.args.export.now) c.args.place c.requires (plain_export c.in-Some.partner.now) c.in-Some.ensures) c.push_changed.ensures
 
 pub returns-in-None : goal.returns-in-None
 returns-in-None c =
