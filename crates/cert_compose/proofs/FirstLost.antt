@@ -1,5 +1,5 @@
 -- One thing is the first that is lost.
-use Rattle.std.proofs.Common.{◌≡◌, ◌<◌, ℕ, length, slice_get, refl, sym, ◌∙◌, ap, inl, inr, arith}
+use Rattle.std.proofs.Common.{◌≡◌, ℕ, length, slice_get, sym, ◌∙◌, ap, inl, inr, arith}
 use Rattle.std.proofs.lemmas.Bool.{cases_order}
 use Rattle.abi_types.specs.Graphs.{node_at}
 use Rattle.cert_check.specs.Accepted.{symbol_of}

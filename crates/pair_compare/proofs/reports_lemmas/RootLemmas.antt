@@ -1,5 +1,5 @@
 -- The typed pairs of two libraries, and where paths from them end.
-use Rattle.std.proofs.Common.{◌≡◌, ◌&&◌, ℕ, false, length, slice_get, Option, Some, None, refl, sym, ◌∙◌, ap, inl, inr}
+use Rattle.std.proofs.Common.{◌≡◌, ℕ, slice_get, Some, sym, ◌∙◌, ap}
 use Rattle.std.specs.Prelude.{◌↔◌, option_and_then, unwrap_or}
 use Rattle.abi_types.specs.Exports.{PlainExport}
 use Rattle.abi_types.specs.Graphs.{node_of}

@@ -1,6 +1,6 @@
 -- What is kept of breaks, the keys of what is kept, and its rows.
 use Rattle.std.proofs.Common.{◌≡◌, ◌<◌, ◌≤◌, ℕ, ◌+◌, Bool, true, false, not, cond, List, [], ◌∷◌, ◌++◌, map, take, length, get_or, slice_get, Some, Vec, refl, sym, ◌∙◌, ap, subst, inl, inr, append_assoc}
-use Rattle.std.specs.Prelude.{◌==◌, ◌&&◌, ◌||◌}
+use Rattle.std.specs.Prelude.{◌==◌, ◌&&◌}
 use Rattle.std.specs.BTreeSet.{BTreeSet, IsEmpty, IsUnchanged, contains}
 use Rattle.std.specs.Bool.{OnFalse}
 use Rattle.std.specs.Cmp.{both_tied, unsigned_ties, nat_eq_equiv}
@@ -18,7 +18,7 @@ use Rattle.std.proofs.lemmas.List.Elements.{Contains-get_or}
 use Rattle.std.proofs.lemmas.Option.{slice_get-get_or}
 use Rattle.abi_base.proofs.lemmas.Bools.{cond_last, not_is_true, not_is_false}
 use Rattle.abi_base.specs.Lists.{with_first, firsts_after, firsts}
-use Rattle.abi_base.proofs.lemmas.Lists.{AreFirsts-all, contains_at, list_any-map, map-map}
+use Rattle.abi_base.proofs.lemmas.Lists.{AreFirsts-all, contains_at, map-map}
 use Rattle.abi_types.specs.declared.rule.Rule.TheVariants.{LibrarySoname}
 use Rattle.abi_types.specs.Graphs.{node_at, view_at}
 use Rattle.abi_types.specs.Rules.{rule_place}
