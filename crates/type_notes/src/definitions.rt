@@ -5,6 +5,7 @@ ghost use Rattle.std.specs.Str.{bytes_eq};
 ghost use Rattle.type_notes.specs.DefinedElsewhere.{AreDefinitions, places_under};
 ghost use Rattle.type_notes.specs.DefinedElsewhere as spec;
 
+use crate::room::NoteRoom;
 use abi_base::dwarf::{
     DW_TAG_compile_unit, DW_TAG_enumeration_type, DW_TAG_partial_unit, DW_TAG_structure_type,
     DW_TAG_type_unit, DW_TAG_union_type,
@@ -66,13 +67,15 @@ fn keep<'a>(
     Ok(())
 }
 
-// Adds an entry under its name, if it is a definition.
+// Adds an entry under its name, if it is a definition. The room takes the name before it is compared with others: in a small file many
+// entries can share one long name.
 #[tactic(auto, unfolding(crate::specs::DefinedElsewhere::defines))]
 fn keep_definition<'a>(
     alloc: Global,
     places: &mut BTreeMap<&'a [u8], List<EntryNumber>>,
     dwarf: &Dwarf<'a>,
     e: EntryNumber,
+    room: &mut NoteRoom,
 ) -> Result<(), NoMemory>
     requires { e < length dwarf.now.tree.entries }
     ensures { OnOk result ((q : List ℕ) → places_under places.new q ≡ places_under places.old q ++ (if spec.defines dwarf.now q e then e ∷ [] else [])) }
@@ -81,7 +84,10 @@ fn keep_definition<'a>(
         return Ok(());
     }
     match dwarf.name_of(e) {
-        Some(name) => keep(alloc, places, name, e),
+        Some(name) => {
+            room.take_letters(name)?;
+            keep(alloc, places, name, e)
+        }
         None => Ok(()),
     }
 }
@@ -92,13 +98,14 @@ fn keep_definitions<'a>(
     places: &mut BTreeMap<&'a [u8], List<EntryNumber>>,
     dwarf: &Dwarf<'a>,
     entries: &[EntryNumber],
+    room: &mut NoteRoom,
 ) -> Result<(), NoMemory>
     requires { All (λ e. e < length dwarf.now.tree.entries) entries.now }
     ensures { OnOk result ((q : List ℕ) → places_under places.new q ≡ places_under places.old q ++ filter (spec.defines dwarf.now q) entries.now) }
 {
     for k in 0..entries.len() {
         let entry = entries[k];
-        keep_definition(alloc, places, dwarf, entry)?;
+        keep_definition(alloc, places, dwarf, entry, room)?;
     }
     Ok(())
 }
@@ -137,6 +144,7 @@ fn definitions_with<'a>(
     alloc: Global,
     dwarf: &Dwarf<'a>,
     tag: u64,
+    room: &mut NoteRoom,
 ) -> Result<BTreeMap<&'a [u8], List<EntryNumber>>, NoMemory>
     ensures { IfOk result (λ places. (q : List ℕ) → places_under places q ≡ spec.definitions_of dwarf.now tag q) }
 {
@@ -145,21 +153,23 @@ fn definitions_with<'a>(
     for root in 0..dwarf.len() {
         let entry = EntryNumber::new(root as u32);
         let tops = at_top_of(alloc, dwarf, entry, tag)?;
-        keep_definitions(alloc, &mut places, dwarf, tops.as_slice())?;
+        keep_definitions(alloc, &mut places, dwarf, tops.as_slice(), room)?;
     }
     Ok(places)
 }
 
-/// The definitions of a library's types: for each name, the entries at the top of a unit that are not declarations.
+/// The definitions of a library's types: for each name, the entries at the top of a unit that are not declarations. The room takes
+/// the names.
 pub(crate) fn definitions_of<'a>(
     alloc: Global,
     dwarf: &Dwarf<'a>,
+    room: &mut NoteRoom,
 ) -> Result<Definitions<'a>, NoMemory>
     ensures { IfOk result (AreDefinitions dwarf.now) }
 {
-    let structures = definitions_with(alloc, dwarf, DW_TAG_structure_type)?;
-    let unions = definitions_with(alloc, dwarf, DW_TAG_union_type)?;
-    let enumerations = definitions_with(alloc, dwarf, DW_TAG_enumeration_type)?;
+    let structures = definitions_with(alloc, dwarf, DW_TAG_structure_type, room)?;
+    let unions = definitions_with(alloc, dwarf, DW_TAG_union_type, room)?;
+    let enumerations = definitions_with(alloc, dwarf, DW_TAG_enumeration_type, room)?;
     Ok(Definitions {
         structures,
         unions,

@@ -64,6 +64,13 @@ impl NoteRoom {
         Ok(())
     }
 
+    /// Takes the letters of a name. It fails where less room is left, and names the limit.
+    pub(crate) fn take_letters(&mut self, name: &[u8]) -> Result<(), NoMemory>
+        ensures { IfErr result (λ e. e ≡ Past Notes) }
+    {
+        self.take(name.len())
+    }
+
     // Takes a name, and a fixed amount for the part or type that it names.
     fn take_name(&mut self, name: Option<&[u8]>) -> Result<(), NoMemory> {
         let letters = name.unwrap_or(&[]).len();

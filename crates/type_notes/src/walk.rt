@@ -265,8 +265,8 @@ fn push_visit(
     )
 }
 
-// The notes of all visits, in order.
-fn notes_along(alloc: Global, walk: &Walk) -> Result<List<Note>, NoMemory>
+// The notes of all visits, in order, in what is left of the room.
+fn notes_along(alloc: Global, walk: &Walk, room: &mut NoteRoom) -> Result<List<Note>, NoMemory>
     requires definitions { AreOfBoth walk.now.ground.now.old_dwarf.now walk.now.ground.now.new_dwarf.now walk.now.definitions.now }
     requires packed { ArePacked walk.now.ground.now.pair.old.now.graph walk.now.ground.now.pair.new.now.graph walk.now.packed }
     requires readable { AreReadable (sides_of walk.now.ground.now.pair) walk.now.visits.now }
@@ -274,9 +274,8 @@ fn notes_along(alloc: Global, walk: &Walk) -> Result<List<Note>, NoMemory>
 {
     let mut notes = List::new(alloc);
     let mut compared = HashSet::new(alloc);
-    let mut room = NoteRoom::beside(walk.ground);
     'visits: for number in 0..walk.visits.len() {
-        push_visit(alloc, &mut notes, &mut compared, walk, number, &mut room)?;
+        push_visit(alloc, &mut notes, &mut compared, walk, number, room)?;
     }
     Ok(notes)
 }
@@ -290,8 +289,9 @@ fn notes_with_definitions(
     requires { AreReadable (sides_of ground.now.pair) visits.now }
     ensures { IfOk result (λ notes. notes ≡ notes_below (noted_pair ground.now) visits.now (length visits.now)) }
 {
-    let old = definitions_of(alloc, ground.old_dwarf)?;
-    let new = definitions_of(alloc, ground.new_dwarf)?;
+    let mut room = NoteRoom::beside(ground);
+    let old = definitions_of(alloc, ground.old_dwarf, &mut room)?;
+    let new = definitions_of(alloc, ground.new_dwarf, &mut room)?;
     let definitions = DefinitionPair {
         old: &old,
         new: &new,
@@ -308,7 +308,7 @@ fn notes_with_definitions(
         packed,
         visits,
     };
-    notes_along(alloc, &walk)
+    notes_along(alloc, &walk, &mut room)
 }
 
 // The notes on two libraries, with a counter of steps.
