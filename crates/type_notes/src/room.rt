@@ -31,7 +31,7 @@ const BYTES_AT_LEAST: usize = 1_048_576;
 // What a part, a name or a step of a chain takes besides its letters.
 const PART: usize = 32;
 
-// What a child takes besides that, since it is passed over more than once.
+// What each child takes, whatever its tag, since it is passed over more than once.
 const CHILD: usize = 4;
 
 // What a note takes besides its texts.
@@ -113,9 +113,12 @@ impl NoteRoom {
     fn take_entry(&mut self, alloc: Global, dwarf: &Dwarf, e: EntryNumber) -> Result<(), NoMemory>
         requires { e < length dwarf.now.tree.entries }
     {
-        self.take_children(dwarf, body_of(dwarf, e))?;
+        let body = body_of(dwarf, e);
+        if body != e {
+            self.take_children(dwarf, body)?;
+        }
         self.take_children(dwarf, e)?;
-        self.take_tagged(alloc, dwarf, body_of(dwarf, e), DW_TAG_formal_parameter)?;
+        self.take_tagged(alloc, dwarf, body, DW_TAG_formal_parameter)?;
         self.take_tagged(alloc, dwarf, e, DW_TAG_member)?;
         self.take_tagged(alloc, dwarf, e, DW_TAG_enumerator)?;
         self.take_tagged(alloc, dwarf, e, DW_TAG_subrange_type)
