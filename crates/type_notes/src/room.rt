@@ -99,10 +99,7 @@ impl NoteRoom {
         requires { e < length dwarf.now.tree.entries }
     {
         let mut next = dwarf.next_child(e, None);
-        for _passed in 0..dwarf.len() {
-            let Some(child) = next else {
-                return Ok(());
-            };
+        'children: while let Some(child) = next {
             self.take(CHILD)?;
             next = dwarf.next_child(e, Some(child));
         }
