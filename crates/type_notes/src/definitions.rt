@@ -71,7 +71,6 @@ fn keep<'a>(
 // entries can share one long name.
 #[tactic(auto, unfolding(crate::specs::DefinedElsewhere::defines))]
 fn keep_definition<'a>(
-    alloc: Global,
     places: &mut BTreeMap<&'a [u8], List<EntryNumber>>,
     dwarf: &Dwarf<'a>,
     e: EntryNumber,
@@ -86,7 +85,7 @@ fn keep_definition<'a>(
     match dwarf.name_of(e) {
         Some(name) => {
             room.take_letters(name)?;
-            keep(alloc, places, name, e)
+            keep(room.alloc, places, name, e)
         }
         None => Ok(()),
     }
@@ -94,7 +93,6 @@ fn keep_definition<'a>(
 
 // Adds those entries that are definitions, under their names.
 fn keep_definitions<'a>(
-    alloc: Global,
     places: &mut BTreeMap<&'a [u8], List<EntryNumber>>,
     dwarf: &Dwarf<'a>,
     entries: &[EntryNumber],
@@ -105,7 +103,7 @@ fn keep_definitions<'a>(
 {
     for k in 0..entries.len() {
         let entry = entries[k];
-        keep_definition(alloc, places, dwarf, entry, room)?;
+        keep_definition(places, dwarf, entry, room)?;
     }
     Ok(())
 }
@@ -141,19 +139,18 @@ fn at_top_of(
 
 // The definitions of all types with a tag, by name.
 fn definitions_with<'a>(
-    alloc: Global,
     dwarf: &Dwarf<'a>,
     tag: u64,
     room: &mut NoteRoom,
 ) -> Result<BTreeMap<&'a [u8], List<EntryNumber>>, NoMemory>
     ensures { IfOk result (λ places. (q : List ℕ) → places_under places q ≡ spec.definitions_of dwarf.now tag q) }
 {
-    let mut places = BTreeMap::new(alloc);
+    let mut places = BTreeMap::new(room.alloc);
     dwarf.known();
     for root in 0..dwarf.len() {
         let entry = EntryNumber::new(root as u32);
-        let tops = at_top_of(alloc, dwarf, entry, tag)?;
-        keep_definitions(alloc, &mut places, dwarf, tops.as_slice(), room)?;
+        let tops = at_top_of(room.alloc, dwarf, entry, tag)?;
+        keep_definitions(&mut places, dwarf, tops.as_slice(), room)?;
     }
     Ok(places)
 }
@@ -161,15 +158,14 @@ fn definitions_with<'a>(
 /// The definitions of a library's types: for each name, the entries at the top of a unit that are not declarations. The room takes
 /// the names.
 pub(crate) fn definitions_of<'a>(
-    alloc: Global,
     dwarf: &Dwarf<'a>,
     room: &mut NoteRoom,
 ) -> Result<Definitions<'a>, NoMemory>
     ensures { IfOk result (AreDefinitions dwarf.now) }
 {
-    let structures = definitions_with(alloc, dwarf, DW_TAG_structure_type, room)?;
-    let unions = definitions_with(alloc, dwarf, DW_TAG_union_type, room)?;
-    let enumerations = definitions_with(alloc, dwarf, DW_TAG_enumeration_type, room)?;
+    let structures = definitions_with(dwarf, DW_TAG_structure_type, room)?;
+    let unions = definitions_with(dwarf, DW_TAG_union_type, room)?;
+    let enumerations = definitions_with(dwarf, DW_TAG_enumeration_type, room)?;
     Ok(Definitions {
         structures,
         unions,

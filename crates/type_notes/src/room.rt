@@ -37,18 +37,21 @@ const CHILD: usize = 4;
 // What a note takes besides its texts.
 const NOTE: usize = 128;
 
-/// How many bytes of names and texts the notes may still take.
+/// The memory of the notes, and how many bytes of names and texts they may still take.
 #[derive(Drop)]
 pub(crate) struct NoteRoom {
+    /// The allocator of the notes.
+    pub alloc: Global,
     left: usize,
 }
 
 impl NoteRoom {
     /// The room for the notes on two libraries, by the sizes of their files.
-    pub(crate) fn beside(ground: &NotedPair) -> NoteRoom {
+    pub(crate) fn beside(alloc: Global, ground: &NotedPair) -> NoteRoom {
         let old = ground.pair.old.file().len();
         let new = ground.pair.new.file().len();
         NoteRoom {
+            alloc,
             left: old
                 .saturating_add(new)
                 .saturating_mul(BYTES_A_BYTE)
@@ -78,16 +81,10 @@ impl NoteRoom {
     }
 
     // Takes the names of the children with a tag.
-    fn take_tagged(
-        &mut self,
-        alloc: Global,
-        dwarf: &Dwarf,
-        e: EntryNumber,
-        tag: u64,
-    ) -> Result<(), NoMemory>
+    fn take_tagged(&mut self, dwarf: &Dwarf, e: EntryNumber, tag: u64) -> Result<(), NoMemory>
         requires { e < length dwarf.now.tree.entries }
     {
-        let children = dwarf.tagged(alloc, e, tag)?;
+        let children = dwarf.tagged(self.alloc, e, tag)?;
         for k in 0..children.len() {
             self.take_name(dwarf.name_of(children[k]))?;
         }
@@ -107,7 +104,7 @@ impl NoteRoom {
     }
 
     // Takes the parameters, members, enumerators and dimensions of an entry.
-    fn take_entry(&mut self, alloc: Global, dwarf: &Dwarf, e: EntryNumber) -> Result<(), NoMemory>
+    fn take_entry(&mut self, dwarf: &Dwarf, e: EntryNumber) -> Result<(), NoMemory>
         requires { e < length dwarf.now.tree.entries }
     {
         let body = body_of(dwarf, e);
@@ -115,10 +112,10 @@ impl NoteRoom {
             self.take_children(dwarf, body)?;
         }
         self.take_children(dwarf, e)?;
-        self.take_tagged(alloc, dwarf, body, DW_TAG_formal_parameter)?;
-        self.take_tagged(alloc, dwarf, e, DW_TAG_member)?;
-        self.take_tagged(alloc, dwarf, e, DW_TAG_enumerator)?;
-        self.take_tagged(alloc, dwarf, e, DW_TAG_subrange_type)
+        self.take_tagged(dwarf, body, DW_TAG_formal_parameter)?;
+        self.take_tagged(dwarf, e, DW_TAG_member)?;
+        self.take_tagged(dwarf, e, DW_TAG_enumerator)?;
+        self.take_tagged(dwarf, e, DW_TAG_subrange_type)
     }
 
     // Takes the names of a type.
@@ -132,7 +129,6 @@ impl NoteRoom {
     // Takes a type: its names, and the parts of the entry behind it.
     fn take_type<Ix: Index>(
         &mut self,
-        alloc: Global,
         dwarf: &Dwarf,
         graph: &Graph<Ix>,
         ix: Ix,
@@ -141,32 +137,27 @@ impl NoteRoom {
     {
         self.take_labels(graph.labels(ix))?;
         match core_at(dwarf, DebugInfoOffset::new(graph.entry_of(ix))) {
-            Some(e) => self.take_entry(alloc, dwarf, e),
+            Some(e) => self.take_entry(dwarf, e),
             None => Ok(()),
         }
     }
 
     /// Takes the two types of a visit, and a comparison of each new member with each old one.
-    pub(crate) fn take_visit(
-        &mut self,
-        alloc: Global,
-        ground: &NotedPair,
-        visit: &Visit,
-    ) -> Result<(), NoMemory>
+    pub(crate) fn take_visit(&mut self, ground: &NotedPair, visit: &Visit) -> Result<(), NoMemory>
         requires old { visit.now.old < length ground.now.pair.old.now.graph }
         requires new { visit.now.new < length ground.now.pair.new.now.graph }
     {
         let old = ground.pair.old.graph();
         let new = ground.pair.new.graph();
-        self.take_type(alloc, ground.old_dwarf, old, visit.old)?;
-        self.take_type(alloc, ground.new_dwarf, new, visit.new)?;
+        self.take_type(ground.old_dwarf, old, visit.old)?;
+        self.take_type(ground.new_dwarf, new, visit.new)?;
         let old_parts = old.view(visit.old).parts_len();
         let new_parts = new.view(visit.new).parts_len();
         self.take(old_parts.saturating_mul(new_parts))
     }
 
     // Takes the chain of types of a member, with the dimensions of its arrays.
-    fn take_chain(&mut self, alloc: Global, dwarf: &Dwarf, m: EntryNumber) -> Result<(), NoMemory>
+    fn take_chain(&mut self, dwarf: &Dwarf, m: EntryNumber) -> Result<(), NoMemory>
         requires { m < length dwarf.now.tree.entries }
     {
         let mut at = Some(m);
@@ -175,7 +166,7 @@ impl NoteRoom {
                 None => return Ok(()),
                 Some(e) => {
                     self.take_name(dwarf.name_of(e))?;
-                    self.take_tagged(alloc, dwarf, e, DW_TAG_subrange_type)?;
+                    self.take_tagged(dwarf, e, DW_TAG_subrange_type)?;
                     at = type_of(dwarf, e);
                 }
             }
@@ -184,44 +175,34 @@ impl NoteRoom {
     }
 
     // Takes the members or enumerators of a definition.
-    fn take_definition(
-        &mut self,
-        alloc: Global,
-        dwarf: &Dwarf,
-        e: EntryNumber,
-    ) -> Result<(), NoMemory>
+    fn take_definition(&mut self, dwarf: &Dwarf, e: EntryNumber) -> Result<(), NoMemory>
         requires { e < length dwarf.now.tree.entries }
     {
         self.take(PART)?;
-        let parts = parts_of(alloc, dwarf, e)?;
+        let parts = parts_of(self.alloc, dwarf, e)?;
         for k in 0..parts.len() {
-            self.take_chain(alloc, dwarf, parts[k])?;
+            self.take_chain(dwarf, parts[k])?;
         }
         Ok(())
     }
 
     // Takes definitions.
-    fn take_definitions(
-        &mut self,
-        alloc: Global,
-        dwarf: &Dwarf,
-        entries: &[EntryNumber],
-    ) -> Result<(), NoMemory>
+    fn take_definitions(&mut self, dwarf: &Dwarf, entries: &[EntryNumber]) -> Result<(), NoMemory>
         requires { All (λ e. e < length dwarf.now.tree.entries) entries.now }
     {
         for k in 0..entries.len() {
-            self.take_definition(alloc, dwarf, entries[k])?;
+            self.take_definition(dwarf, entries[k])?;
         }
         Ok(())
     }
 
     /// Takes all definitions of a tag and a name in two libraries.
-    pub(crate) fn take_kin(&mut self, alloc: Global, kin: &Kin) -> Result<(), NoMemory>
+    pub(crate) fn take_kin(&mut self, kin: &Kin) -> Result<(), NoMemory>
         requires old { All (λ e. e < length kin.now.old_dwarf.now.tree.entries) kin.now.old.now }
         requires new { All (λ e. e < length kin.now.new_dwarf.now.tree.entries) kin.now.new.now }
     {
-        self.take_definitions(alloc, kin.old_dwarf, kin.old)?;
-        self.take_definitions(alloc, kin.new_dwarf, kin.new)
+        self.take_definitions(kin.old_dwarf, kin.old)?;
+        self.take_definitions(kin.new_dwarf, kin.new)
     }
 
     /// Takes the notes on differences under an export and a path.

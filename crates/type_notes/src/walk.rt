@@ -146,7 +146,6 @@ fn definitions_of_types(
 
 // Adds the notes on differences at a visit, with the path to it.
 fn push_under_path(
-    alloc: Global,
     notes: &mut List<Note>,
     ground: &NotedPair,
     place: (&Visits, usize),
@@ -159,11 +158,11 @@ fn push_under_path(
 {
     parents_spell_paths();
     let (visits, number) = place;
-    let route = route_to(alloc, visits, number)?;
-    let export = label_at(alloc, ground.pair.old, route.export)?;
-    let path = steps_text(alloc, ground.pair.old, &route)?;
+    let route = route_to(room.alloc, visits, number)?;
+    let export = label_at(room.alloc, ground.pair.old, route.export)?;
+    let path = steps_text(room.alloc, ground.pair.old, &route)?;
     room.take_notes(export.as_str(), path.as_str(), found)?;
-    push_all(alloc, notes, export.as_str(), path.as_str(), found)
+    push_all(room.alloc, notes, export.as_str(), path.as_str(), found)
 }
 
 // The input of the walk: the libraries with their definitions and packed nodes, and what was explored.
@@ -177,7 +176,6 @@ struct Walk<'w, 'x, 'o, 'n, 'd, 'e> {
 
 // The difference between all definitions of the tags and names of two definitions.
 fn change_of(
-    alloc: Global,
     walk: &Walk,
     found: (EntryNumber, EntryNumber),
     room: &mut NoteRoom,
@@ -189,21 +187,20 @@ fn change_of(
 {
     let old_dwarf = walk.ground.old_dwarf;
     let new_dwarf = walk.ground.new_dwarf;
-    let old = kin_of(alloc, old_dwarf, walk.definitions.old, found.0)?;
-    let new = kin_of(alloc, new_dwarf, walk.definitions.new, found.1)?;
+    let old = kin_of(room.alloc, old_dwarf, walk.definitions.old, found.0)?;
+    let new = kin_of(room.alloc, new_dwarf, walk.definitions.new, found.1)?;
     let kin = Kin {
         old_dwarf,
         new_dwarf,
         old: old.as_slice(),
         new: new.as_slice(),
     };
-    room.take_kin(alloc, &kin)?;
-    kin_change(alloc, &kin)
+    room.take_kin(&kin)?;
+    kin_change(room.alloc, &kin)
 }
 
 // Adds the difference between two definitions, unless the old one was compared before, and records it as compared.
 fn push_definitions(
-    alloc: Global,
     list: &mut List<Difference>,
     compared: &mut HashSet<usize>,
     walk: &Walk,
@@ -223,13 +220,12 @@ fn push_definitions(
     if !compared.insert(found.0.index())? {
         return Ok(());
     }
-    push_found(list, change_of(alloc, walk, found, room)?)
+    push_found(list, change_of(walk, found, room)?)
 }
 
 // Adds the notes of a visit.
 #[tactic(auto, unfolding(crate::specs::NotedPairs::notes_at, crate::specs::NotedPairs::definitions_at))]
 fn push_visit(
-    alloc: Global,
     notes: &mut List<Note>,
     compared: &mut HashSet<usize>,
     walk: &Walk,
@@ -248,15 +244,14 @@ fn push_visit(
     if is_marked(walk.ground, visit.old, visit.way) {
         return Ok(());
     }
-    room.take_visit(alloc, walk.ground, &visit)?;
-    let mut found = differences_at(alloc, walk.ground, &walk.packed, &visit)?;
+    room.take_visit(walk.ground, &visit)?;
+    let mut found = differences_at(room.alloc, walk.ground, &walk.packed, &visit)?;
     let defined = definitions_of_types(walk.ground, walk.definitions, &visit);
-    push_definitions(alloc, &mut found, compared, walk, defined, room)?;
+    push_definitions(&mut found, compared, walk, defined, room)?;
     if found.as_slice().is_empty() {
         return Ok(());
     }
     push_under_path(
-        alloc,
         notes,
         walk.ground,
         (walk.visits, number),
@@ -266,16 +261,16 @@ fn push_visit(
 }
 
 // The notes of all visits, in order, in what is left of the room.
-fn notes_along(alloc: Global, walk: &Walk, room: &mut NoteRoom) -> Result<List<Note>, NoMemory>
+fn notes_along(walk: &Walk, room: &mut NoteRoom) -> Result<List<Note>, NoMemory>
     requires definitions { AreOfBoth walk.now.ground.now.old_dwarf.now walk.now.ground.now.new_dwarf.now walk.now.definitions.now }
     requires packed { ArePacked walk.now.ground.now.pair.old.now.graph walk.now.ground.now.pair.new.now.graph walk.now.packed }
     requires readable { AreReadable (sides_of walk.now.ground.now.pair) walk.now.visits.now }
     ensures { IfOk result (λ notes. notes ≡ notes_below (noted_pair walk.now.ground.now) walk.now.visits.now (length walk.now.visits.now)) }
 {
-    let mut notes = List::new(alloc);
-    let mut compared = HashSet::new(alloc);
+    let mut notes = List::new(room.alloc);
+    let mut compared = HashSet::new(room.alloc);
     'visits: for number in 0..walk.visits.len() {
-        push_visit(alloc, &mut notes, &mut compared, walk, number, room)?;
+        push_visit(&mut notes, &mut compared, walk, number, room)?;
     }
     Ok(notes)
 }
@@ -289,9 +284,9 @@ fn notes_with_definitions(
     requires { AreReadable (sides_of ground.now.pair) visits.now }
     ensures { IfOk result (λ notes. notes ≡ notes_below (noted_pair ground.now) visits.now (length visits.now)) }
 {
-    let mut room = NoteRoom::beside(ground);
-    let old = definitions_of(alloc, ground.old_dwarf, &mut room)?;
-    let new = definitions_of(alloc, ground.new_dwarf, &mut room)?;
+    let mut room = NoteRoom::beside(alloc, ground);
+    let old = definitions_of(ground.old_dwarf, &mut room)?;
+    let new = definitions_of(ground.new_dwarf, &mut room)?;
     let definitions = DefinitionPair {
         old: &old,
         new: &new,
@@ -308,7 +303,7 @@ fn notes_with_definitions(
         packed,
         visits,
     };
-    notes_along(alloc, &walk, &mut room)
+    notes_along(&walk, &mut room)
 }
 
 // The notes on two libraries, with a counter of steps.
