@@ -23,7 +23,7 @@ use Rattle.dwarf_entries.specs.Addresses.{tag_at}
 use Rattle.dwarf_entries.specs.Debug.{PlainDwarf}
 use Rattle.type_reach.specs.References.{Type_, role_of, tagged_children, type_of}
 use Rattle.type_notes.specs.declared.difference.Difference.{Difference}
-use Rattle.type_notes.specs.DefinedElsewhere.{Named, TextSet, at_top_of, definitions_of, definitions_named, defines, first_in, first_of, has_definitions, has_text, is_among, is_unit_tag, list_or_none, places_under, tops_below, tops_of}
+use Rattle.type_notes.specs.DefinedElsewhere.{Named, TextSet, at_top_of, definitions_of, definitions_named, defines, first_in, first_of, has_definitions, has_text, is_among, is_unit_tag, list_or_none, numbers_under, tops_below, tops_of}
 use Rattle.type_notes.specs.DefinitionTexts.{goes_on, type_text, type_word}
 use Rattle.pair_rules.proofs.lemmas.Truths.{cond_or}
 use Rattle.type_notes.proofs.ChainLemmas.{one_less, none_left}
@@ -35,22 +35,22 @@ key q = record { ref_ptr = (0, 0); now = q }
 
 -- what stands under each name once the list under one name is taken out
 pub taken_others : (old new : Named) (name : List ℕ) → ((q : Bor (List ℕ)) → get_by (λ k. slice_cmp nat_cmp q.now k.now) new ≡ cond (is_eq (slice_cmp nat_cmp name q.now)) None (get_by (λ k. slice_cmp nat_cmp q.now k.now) old))
-    → (q : List ℕ) → places_under new q ≡ (if bytes_eq name q then [] else places_under old q)
+    → (q : List ℕ) → numbers_under new q ≡ (if bytes_eq name q then [] else numbers_under old q)
 taken_others old new name updates q =
     ap list_or_none (updates (key q)) ∙ ap (λ (b : Bool). list_or_none (cond b None (get_by (λ k. slice_cmp nat_cmp q k.now) old))) (is_eq-slice_cmp name q) ∙ elim (cases_Bool (bytes_eq name q)) [
       | inl same ↦ rw same refl
       | inr apart ↦ rw apart refl
     ]
 
--- what stands under each name once the list is put back with one place more
-pub kept : (old mid new : Named) (name list grown : List ℕ) (place : ℕ) → list ≡ places_under old name → grown ≡ list ++ place ∷ []
-    → ((q : List ℕ) → places_under mid q ≡ (if bytes_eq name q then [] else places_under old q))
+-- what stands under each name once the list is put back with one number more
+pub kept : (old mid new : Named) (name list grown : List ℕ) (number : ℕ) → list ≡ numbers_under old name → grown ≡ list ++ number ∷ []
+    → ((q : List ℕ) → numbers_under mid q ≡ (if bytes_eq name q then [] else numbers_under old q))
     → ((q : Bor (List ℕ)) → get_by (λ k. slice_cmp nat_cmp q.now k.now) new ≡ cond (is_eq (slice_cmp nat_cmp name q.now)) (Some grown) (get_by (λ k. slice_cmp nat_cmp q.now k.now) mid))
-    → (q : List ℕ) → places_under new q ≡ places_under old q ++ (if bytes_eq name q then place ∷ [] else [])
-kept old mid new name list grown place is pushed others updates q =
+    → (q : List ℕ) → numbers_under new q ≡ numbers_under old q ++ (if bytes_eq name q then number ∷ [] else [])
+kept old mid new name list grown number is pushed others updates q =
     ap list_or_none (updates (key q)) ∙ ap (λ (b : Bool). list_or_none (cond b (Some grown) (get_by (λ k. slice_cmp nat_cmp q k.now) mid))) (is_eq-slice_cmp name q) ∙ elim (cases_Bool (bytes_eq name q)) [
-      | inl same ↦ rw same (pushed ∙ ap (λ (l : List ℕ). l ++ place ∷ []) (is ∙ ap (places_under old) ((bytes_eq-Decides name q).0 same)))
-      | inr apart ↦ rw apart (others q ∙ ap (λ (b : Bool). if b then [] else places_under old q) apart ∙ sym (append-nil (places_under old q)))
+      | inl same ↦ rw same (pushed ∙ ap (λ (l : List ℕ). l ++ number ∷ []) (is ∙ ap (numbers_under old) ((bytes_eq-Decides name q).0 same)))
+      | inr apart ↦ rw apart (others q ∙ ap (λ (b : Bool). if b then [] else numbers_under old q) apart ∙ sym (append-nil (numbers_under old q)))
     ]
 
 -- ---- searches

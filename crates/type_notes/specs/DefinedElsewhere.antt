@@ -161,21 +161,21 @@ abbrev pub list_or_none : Option (List ℕ) → List ℕ
 list_or_none None = []
 list_or_none (Some list) = list
 
-abbrev pub places_under : Named → List ℕ → List ℕ
-places_under places name = list_or_none (get_by (λ k. slice_cmp nat_cmp name k.now) places)
+abbrev pub numbers_under : Named → List ℕ → List ℕ
+numbers_under numbers name = list_or_none (get_by (λ k. slice_cmp nat_cmp name k.now) numbers)
 
 -- the maps hold the definitions of each name
 pub record AreDefinitions (d : PlainDwarf) (m : Definitions) : Type 0 where
-  pub structures : (name : List ℕ) → places_under m.structures name ≡ definitions_of d dw_tag_structure_type name
-  pub unions : (name : List ℕ) → places_under m.unions name ≡ definitions_of d dw_tag_union_type name
-  pub enumerations : (name : List ℕ) → places_under m.enumerations name ≡ definitions_of d dw_tag_enumeration_type name
+  pub structures : (name : List ℕ) → numbers_under m.structures name ≡ definitions_of d dw_tag_structure_type name
+  pub unions : (name : List ℕ) → numbers_under m.unions name ≡ definitions_of d dw_tag_union_type name
+  pub enumerations : (name : List ℕ) → numbers_under m.enumerations name ≡ definitions_of d dw_tag_enumeration_type name
 
 -- the maps of both libraries
 pub record AreOfBoth (d e : PlainDwarf) (p : DefinitionPair) : Type 0 where
   pub old : AreDefinitions d p.old.now
   pub new : AreDefinitions e p.new.now
 
--- the positions are entries of both libraries
+-- the numbers are entries of both libraries
 pub record AreKin (k : Kin) : Type 0 where
   pub old : All (λ e. e < length k.old_dwarf.now.tree.entries) k.old.now
   pub new : All (λ e. e < length k.new_dwarf.now.tree.entries) k.new.now

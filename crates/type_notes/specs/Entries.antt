@@ -11,7 +11,7 @@ use Rattle.type_notes.specs.Aspects.{aspects_between, kind_of, object_aspects}
 use Rattle.type_notes.specs.Differences.{differing}
 use Rattle.type_notes.specs.Texts.{said}
 
--- the debug information of two libraries, and the position of an entry in each
+-- the debug information of two libraries, and the number of an entry in each
 pub record PlainEntries : Type 0 where
   pub old_dwarf : PlainDwarf
   pub new_dwarf : PlainDwarf

@@ -2,7 +2,7 @@
 ghost use Rattle.std.specs.Prelude.{◌≡◌, ◌<◌, ◌++◌, ◌∷◌, [], ℕ, List, filter, if◌then◌else◌, length, All, IfOk, IfSome, OnOk};
 ghost use Rattle.std.specs.Option.{option_copied};
 ghost use Rattle.std.specs.Str.{bytes_eq};
-ghost use Rattle.type_notes.specs.DefinedElsewhere.{AreDefinitions, places_under};
+ghost use Rattle.type_notes.specs.DefinedElsewhere.{AreDefinitions, numbers_under};
 ghost use Rattle.type_notes.specs.DefinedElsewhere as spec;
 
 use crate::room::NoteRoom;
@@ -17,7 +17,7 @@ use dwarf_tree::laws::children_stand_one_deeper;
 use std::alloc::Global;
 use std::collections::BTreeMap;
 
-/// The positions of the entries that define a library's types, by name.
+/// The numbers of the entries that define a library's types, by name.
 #[derive(Drop)]
 pub struct Definitions<'a> {
     /// The definitions of structures.
@@ -37,33 +37,33 @@ pub struct DefinitionPair<'x, 'o, 'n> {
     pub new: &'x Definitions<'n>,
 }
 
-// Removes the positions under a name from the map, and returns them.
+// Removes the numbers under a name from the map, and returns them.
 fn taken<'a>(
     alloc: Global,
-    places: &mut BTreeMap<&'a [u8], List<EntryNumber>>,
+    numbers: &mut BTreeMap<&'a [u8], List<EntryNumber>>,
     name: &'a [u8],
 ) -> List<EntryNumber>
-    ensures list { result ≡ places_under places.old name.now }
-    ensures others { (q : List ℕ) → places_under places.new q ≡ (if bytes_eq name.now q then [] else places_under places.old q) }
+    ensures list { result ≡ numbers_under numbers.old name.now }
+    ensures others { (q : List ℕ) → numbers_under numbers.new q ≡ (if bytes_eq name.now q then [] else numbers_under numbers.old q) }
 {
-    match places.remove(name) {
+    match numbers.remove(name) {
         Some(list) => list,
         None => List::new(alloc),
     }
 }
 
-// Appends a position to those under a name.
+// Appends a number to those under a name.
 fn keep<'a>(
     alloc: Global,
-    places: &mut BTreeMap<&'a [u8], List<EntryNumber>>,
+    numbers: &mut BTreeMap<&'a [u8], List<EntryNumber>>,
     name: &'a [u8],
-    place: EntryNumber,
+    number: EntryNumber,
 ) -> Result<(), NoMemory>
-    ensures { OnOk result ((q : List ℕ) → places_under places.new q ≡ places_under places.old q ++ (if bytes_eq name.now q then place ∷ [] else [])) }
+    ensures { OnOk result ((q : List ℕ) → numbers_under numbers.new q ≡ numbers_under numbers.old q ++ (if bytes_eq name.now q then number ∷ [] else [])) }
 {
-    let mut list = taken(alloc, places, name);
-    list.push(place)?;
-    places.insert(name, list)?;
+    let mut list = taken(alloc, numbers, name);
+    list.push(number)?;
+    numbers.insert(name, list)?;
     Ok(())
 }
 
@@ -71,13 +71,13 @@ fn keep<'a>(
 // entries can share one long name.
 #[tactic(auto, unfolding(crate::specs::DefinedElsewhere::defines))]
 fn keep_definition<'a>(
-    places: &mut BTreeMap<&'a [u8], List<EntryNumber>>,
+    numbers: &mut BTreeMap<&'a [u8], List<EntryNumber>>,
     dwarf: &Dwarf<'a>,
     e: EntryNumber,
     room: &mut NoteRoom,
 ) -> Result<(), NoMemory>
     requires { e < length dwarf.now.tree.entries }
-    ensures { OnOk result ((q : List ℕ) → places_under places.new q ≡ places_under places.old q ++ (if spec.defines dwarf.now q e then e ∷ [] else [])) }
+    ensures { OnOk result ((q : List ℕ) → numbers_under numbers.new q ≡ numbers_under numbers.old q ++ (if spec.defines dwarf.now q e then e ∷ [] else [])) }
 {
     if dwarf.is_declaration(e) {
         return Ok(());
@@ -85,7 +85,7 @@ fn keep_definition<'a>(
     match dwarf.name_of(e) {
         Some(name) => {
             room.take_letters(name)?;
-            keep(room.alloc, places, name, e)
+            keep(room.alloc, numbers, name, e)
         }
         None => Ok(()),
     }
@@ -93,17 +93,17 @@ fn keep_definition<'a>(
 
 // Adds those entries that are definitions, under their names.
 fn keep_definitions<'a>(
-    places: &mut BTreeMap<&'a [u8], List<EntryNumber>>,
+    numbers: &mut BTreeMap<&'a [u8], List<EntryNumber>>,
     dwarf: &Dwarf<'a>,
     entries: &[EntryNumber],
     room: &mut NoteRoom,
 ) -> Result<(), NoMemory>
     requires { All (λ e. e < length dwarf.now.tree.entries) entries.now }
-    ensures { OnOk result ((q : List ℕ) → places_under places.new q ≡ places_under places.old q ++ filter (spec.defines dwarf.now q) entries.now) }
+    ensures { OnOk result ((q : List ℕ) → numbers_under numbers.new q ≡ numbers_under numbers.old q ++ filter (spec.defines dwarf.now q) entries.now) }
 {
     for k in 0..entries.len() {
         let entry = entries[k];
-        keep_definition(places, dwarf, entry, room)?;
+        keep_definition(numbers, dwarf, entry, room)?;
     }
     Ok(())
 }
@@ -143,16 +143,16 @@ fn definitions_with<'a>(
     tag: u64,
     room: &mut NoteRoom,
 ) -> Result<BTreeMap<&'a [u8], List<EntryNumber>>, NoMemory>
-    ensures { IfOk result (λ places. (q : List ℕ) → places_under places q ≡ spec.definitions_of dwarf.now tag q) }
+    ensures { IfOk result (λ numbers. (q : List ℕ) → numbers_under numbers q ≡ spec.definitions_of dwarf.now tag q) }
 {
-    let mut places = BTreeMap::new(room.alloc);
+    let mut numbers = BTreeMap::new(room.alloc);
     dwarf.known();
     for root in 0..dwarf.len() {
         let entry = EntryNumber::new(root as u32);
         let tops = at_top_of(room.alloc, dwarf, entry, tag)?;
-        keep_definitions(&mut places, dwarf, tops.as_slice(), room)?;
+        keep_definitions(&mut numbers, dwarf, tops.as_slice(), room)?;
     }
-    Ok(places)
+    Ok(numbers)
 }
 
 /// The definitions of a library's types: for each name, the entries at the top of a unit that are not declarations. The room takes
@@ -173,11 +173,11 @@ pub(crate) fn definitions_of<'a>(
     })
 }
 
-// The positions under a name.
-fn listed<'x>(places: &'x BTreeMap<&[u8], List<EntryNumber>>, name: &'x [u8]) -> &'x [EntryNumber]
-    ensures { result.now ≡ places_under places.now name.now }
+// The numbers under a name.
+fn listed<'x>(numbers: &'x BTreeMap<&[u8], List<EntryNumber>>, name: &'x [u8]) -> &'x [EntryNumber]
+    ensures { result.now ≡ numbers_under numbers.now name.now }
 {
-    match places.get(name) {
+    match numbers.get(name) {
         Some(list) => list.as_slice(),
         None => &[],
     }
@@ -221,11 +221,11 @@ fn definitions_like<'x>(
     definitions_named(dwarf, definitions, dwarf.tag(e), dwarf.name_of(e))
 }
 
-// The first position of a list.
-fn first_in(places: &[EntryNumber]) -> Option<EntryNumber>
-    ensures { result ≡ spec.first_in places.now }
+// The first number of a list.
+fn first_in(numbers: &[EntryNumber]) -> Option<EntryNumber>
+    ensures { result ≡ spec.first_in numbers.now }
 {
-    places.first().copied()
+    numbers.first().copied()
 }
 
 /// The definition of an entry's type: the entry itself, or for a declaration the first definition of its tag and name.

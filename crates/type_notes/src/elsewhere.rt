@@ -127,9 +127,9 @@ pub(crate) struct Kin<'x, 'o, 'n> {
     pub old_dwarf: &'x Dwarf<'o>,
     /// The debug entries of the new library.
     pub new_dwarf: &'x Dwarf<'n>,
-    /// The positions of the old definitions.
+    /// The numbers of the old definitions.
     pub old: &'x [EntryNumber],
-    /// The positions of the new definitions.
+    /// The numbers of the new definitions.
     pub new: &'x [EntryNumber],
 }
 

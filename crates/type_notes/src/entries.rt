@@ -19,9 +19,9 @@ pub struct EntryPair<'x, 'o, 'n> {
     pub old_dwarf: &'x Dwarf<'o>,
     /// The debug entries of the new library.
     pub new_dwarf: &'x Dwarf<'n>,
-    /// The position of the old entry.
+    /// The number of the old entry.
     pub old: EntryNumber,
-    /// The position of the new entry.
+    /// The number of the new entry.
     pub new: EntryNumber,
 }
 

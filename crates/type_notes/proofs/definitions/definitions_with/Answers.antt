@@ -1,14 +1,14 @@
 -- Unit by unit.
 use Rattle.std.proofs.Common.{◌≡◌, ◌++◌, ◌∙◌, ℕ, List, length, ap, arith}
 use Rattle.std.specs.Prelude.{filter}
-use Rattle.type_notes.specs.DefinedElsewhere.{definitions_of, defines, places_under, tops_below}
+use Rattle.type_notes.specs.DefinedElsewhere.{definitions_of, defines, numbers_under, tops_below}
 use Rattle.type_notes.proofs.DefinitionLemmas.{tops_more}
 use Rattle.type_notes.proofs.definitions.definitions_with.Goals as goal
 
 pub loop-root-preserved : goal.loop-root-preserved
 loop-root-preserved c = λ q.
     tops_more (defines c.args.dwarf.now q) c.args.dwarf.now.tree c.args.tag c.loop-root.root _ _ (c.loop-root.invariant q)
-    (c.in_ok-keep_definitions.ensures q ∙ ap (λ (xs : List ℕ). places_under c.loop-root.places q ++ filter (defines c.args.dwarf.now q) xs) (c.as_slice.ensures.value ∙ rw c.new-entry.ensures at c.in_ok-tops.ensures.entries))
+    (c.in_ok-keep_definitions.ensures q ∙ ap (λ (xs : List ℕ). numbers_under c.loop-root.numbers q ++ filter (defines c.args.dwarf.now q) xs) (c.as_slice.ensures.value ∙ rw c.new-entry.ensures at c.in_ok-tops.ensures.entries))
 
 pub returns : goal.returns
 unfolding definitions_of

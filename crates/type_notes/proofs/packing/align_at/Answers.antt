@@ -1,5 +1,5 @@
 -- The item at the node's number.
-use Rattle.std.proofs.Common.{◌≡◌, ◌<◌, ◌∙◌, length, ap, rules}
+use Rattle.std.proofs.Common.{◌<◌, ◌∙◌, length, ap, rules}
 use Rattle.psabi.specs.Alignment.{align_of}
 use Rattle.type_notes.proofs.PackingLemmas.{listed_at, listed_inside}
 use Rattle.type_notes.proofs.packing.align_at.Goals as goal

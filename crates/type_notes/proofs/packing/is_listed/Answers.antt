@@ -1,5 +1,5 @@
 -- The item at the node's number.
-use Rattle.std.proofs.Common.{◌≡◌, ◌<◌, ◌∙◌, length, ap}
+use Rattle.std.proofs.Common.{◌∙◌, length, ap}
 use Rattle.type_notes.specs.Packing.{is_packed}
 use Rattle.type_notes.proofs.PackingLemmas.{listed_at, listed_inside}
 use Rattle.type_notes.proofs.packing.is_listed.Goals as goal
