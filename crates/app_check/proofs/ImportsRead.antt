@@ -1,7 +1,8 @@
 -- The first undefined need of symbols, and the imports among them, one symbol after another.
-use Rattle.std.proofs.Common.{◌≡◌, ℕ, ◌+◌, ◌<◌, List, [], ◌∷◌, ◌++◌, length, map, take, drop, get_or, Option, Some, None, refl, sym, ◌∙◌, ap}
+use Rattle.std.proofs.Common.{◌≡◌, ℕ, ◌+◌, ◌<◌, ◌≤◌, List, [], ◌∷◌, ◌++◌, length, map, take, drop, get_or, Option, Some, None, refl, sym, ◌∙◌, ap, arith}
 use Rattle.std.proofs.lemmas.List.{append-nil, map-append}
 use Rattle.std.proofs.lemmas.List.Elements.{filter_map-append}
+use Rattle.std.proofs.lemmas.List.Sums.{sum_by_push}
 use Rattle.abi_base.proofs.lemmas.Lists.{take-map_more, drop-map_more}
 use Rattle.abi_base.specs.declared.fault.Fault.{Fault}
 use Rattle.abi_base.specs.Outcome.{first}
@@ -10,7 +11,7 @@ use Rattle.elf.specs.symbols.Plain.{plain_symbol, plain_symbols}
 use Rattle.elf.specs.symbols.Symbols.{PlainSymbol}
 use Rattle.elf_needs.specs.Needs.{PlainNeed}
 use Rattle.app_check.specs.declared.import.Import.{Import}
-use Rattle.app_check.specs.Imports.{PlainImport, need_by, import_of, import_with, imports_with, import_fault_of, import_fault_with, index_in}
+use Rattle.app_check.specs.Imports.{PlainImport, all_need_bytes, need_bytes, need_by, import_of, import_with, imports_with, import_fault_of, import_fault_with, index_in}
 use Rattle.app_check.specs.Plain.{plain_import, plain_imports}
 
 -- ---- the first fault
@@ -51,6 +52,16 @@ module _ (named : ℕ → Option PlainNeed) (indexes : List ℕ) (symbols : List
       → plain_imports before ≡ imports_with named indexes (take i (plain_symbols symbols)) → plain_imports before ≡ imports_with named indexes (take (i + 1) (plain_symbols symbols))
   import_passed before is so_far =
       so_far ∙ sym (one_more ∙ rw (← is) (append-nil (imports_with named indexes (take i (plain_symbols symbols)))))
+
+-- what is left of a budget and the bytes of the names of imports do not exceed the budget, import by import
+pub short_added : (most left next : ℕ) (before more : List Import) (e : Import) → more ≡ before ++ e ∷ [] → left ≡ next + need_bytes (plain_import e) → all_need_bytes (plain_imports before) + left ≤ most
+    → all_need_bytes (plain_imports more) + next ≤ most
+short_added most left next before more e grown spent so_far =
+    let sum : all_need_bytes (plain_imports more) ≡ all_need_bytes (plain_imports before) + need_bytes (plain_import e) =
+    ap (λ (l : List Import). all_need_bytes (plain_imports l)) grown
+    ∙ ap all_need_bytes (map-append plain_import before (e ∷ []))
+    ∙ sum_by_push need_bytes (plain_imports before) (plain_import e) in
+    omega arith
 
 -- ---- what indexes name, said in two ways
 

@@ -1,10 +1,11 @@
 -- The imports of an application, from its dynamic symbols, their version indexes and its version needs, and the first fault of the
 -- application.
-use Rattle.std.specs.Prelude.{ℕ, ◌==◌, nat_le, Bool, not, ◌||◌, ◌&&◌, is_none, is_some, if◌then◌else◌, List, [], ◌∷◌, length, map, slice_get, Option, Some, None, unwrap_or}
-use Rattle.std.specs.List.{filter_map}
+use Rattle.std.specs.Prelude.{ℕ, ◌+◌, ◌*◌, ◌==◌, nat_le, Bool, not, ◌||◌, ◌&&◌, is_none, is_some, if◌then◌else◌, List, [], ◌∷◌, length, map, slice_get, Option, Some, None, unwrap_or}
+use Rattle.std.specs.List.{filter_map, sum_by}
+use Rattle.std.specs.Option.{option_map_or}
 use Rattle.abi_base.specs.declared.fault.Fault.{Fault}
 use Rattle.abi_base.specs.declared.fault.FaultKind.TheVariants as kind
-use Rattle.abi_base.specs.Elf.{stb_global, stb_weak, stb_gnu_unique, shn_undef}
+use Rattle.abi_base.specs.Elf.{stb_global, stb_weak, stb_gnu_unique, shn_undef, sym_size}
 use Rattle.abi_base.specs.GnuVersions.{ver_ndx_global}
 use Rattle.abi_base.specs.Outcome.{fault_if, first}
 use Rattle.elf.specs.file.Elf.{elf_fault}
@@ -19,6 +20,18 @@ pub record PlainImport : Type 0 where
   pub symbol : ℕ
   pub name : List ℕ
   pub need : Option PlainNeed
+
+-- the bytes of the names of the version and of the file that an import needs
+abbrev pub need_bytes : PlainImport → ℕ
+need_bytes i = option_map_or (λ n. length n.version + length n.file) i.need 0
+
+-- the same of all imports, where each one counts, also if it shares its names with others
+abbrev pub all_need_bytes : List PlainImport → ℕ
+all_need_bytes imports = sum_by need_bytes imports
+
+-- how many there may be with this many symbols: 64 times the bytes of the symbol table
+abbrev pub most_need_bytes : ℕ → ℕ
+most_need_bytes symbols = 64 * (symbols * sym_size)
 
 -- Other files may define the symbol: it is not the reserved one, has the binding GLOBAL, WEAK or GNU_UNIQUE, and has a name.
 abbrev pub is_linked : PlainSymbol → Bool

@@ -5,7 +5,7 @@ ghost use Rattle.abi_base.specs.Limits.{input_limit};
 use crate::import::Import;
 use crate::reading::read_app;
 use crate::using::{may_come_from, wanted_by};
-use abi_base::{NoMemory, Refusal, text_at, u64_at};
+use abi_base::{Effort, Limit, NoMemory, Refusal, text_at, u64_at};
 use abi_types::Export;
 use elf::constants::{D_TAG, D_VAL, DT_NULL, DYN_SIZE, SHN_UNDEF, SHT_DYNAMIC, STB_WEAK};
 use elf::file::{ElfFile, read_elf};
@@ -26,35 +26,39 @@ pub struct Links<'a> {
     pub lacking: Vec<&'a [u8]>,
 }
 
-// Whether this text is at an offset. Its end is looked for in one place only: many entries may share one long name, and a search
-// from each would take too long.
-fn is_text_at(strings: &[u8], at: u64, text: &[u8]) -> bool {
+// Whether this text is at an offset. Only where a text of its length can end is that end looked for and the text compared, as long
+// as there is effort for its bytes: many entries may share one long name.
+fn is_text_at(strings: &[u8], at: u64, text: &[u8], effort: &mut Effort) -> Result<bool, NoMemory> {
     match strings.get((at as usize).saturating_add(text.len())) {
-        Some(0) => text_at(strings, at) == Some(text),
-        _ => false,
+        Some(0) => {
+            effort.spend(text.len())?;
+            Ok(text_at(strings, at) == Some(text))
+        }
+        _ => Ok(false),
     }
 }
 
 // Whether the dynamic table of a file lists this library as needed.
-fn names_library(file: &ElfFile, library: &[u8]) -> bool {
+fn names_library(file: &ElfFile, library: &[u8]) -> Result<bool, NoMemory> {
     let Some(section) = file.section_of_kind(SHT_DYNAMIC) else {
-        return false;
+        return Ok(false);
     };
     let Some(strings) = file.strings(section.link) else {
-        return false;
+        return Ok(false);
     };
+    let mut effort = Effort::for_table(Limit::Notes, section.bytes, strings);
     for entry in section.bytes.chunks_exact(DYN_SIZE) {
         let tag = u64_at(entry, D_TAG);
         if tag == Some(DT_NULL) {
-            return false;
+            return Ok(false);
         }
         if let (Some(DT_NEEDED), Some(at)) = (tag, u64_at(entry, D_VAL))
-            && is_text_at(strings, at, library)
+            && is_text_at(strings, at, library, &mut effort)?
         {
-            return true;
+            return Ok(true);
         }
     }
-    false
+    Ok(false)
 }
 
 // Whether a program with this symbol fails to run if no library defines the symbol.
@@ -65,7 +69,7 @@ fn must_be_given(symbol: Option<&Symbol>) -> bool {
     }
 }
 
-// The imports that the file with this soname may define.
+// The imports that the file with this soname may define. The file of each is compared: `read_app` bounds their bytes.
 fn imports_from<'a>(
     alloc: Global,
     imports: &[Import<'a>],
@@ -127,7 +131,7 @@ pub fn links_between<'a>(alloc: Global, app: &'a [u8], library: &[u8]) -> Result
     let places = places.as_slice();
     let bound = places.iter().filter(|place| place.is_some()).count();
     let names = match soname {
-        Some(soname) if names_library(&app_file, soname) => {
+        Some(soname) if names_library(&app_file, soname)? => {
             lacking(alloc, &imports, places, &app_symbols)?
         }
         _ => Vec::new(alloc),

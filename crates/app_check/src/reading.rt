@@ -1,5 +1,5 @@
 // Reads the imports of an application.
-ghost use Rattle.std.specs.Prelude.{◌≡◌, ◌≤◌, ◌∷◌, [], None, length, IfOk};
+ghost use Rattle.std.specs.Prelude.{◌≡◌, ◌≤◌, ◌+◌, ◌++◌, ◌∷◌, [], None, length, IfOk, OnOk};
 ghost use Rattle.std.specs.Option.{option_map};
 ghost use Rattle.abi_base.specs.Limits.{input_limit};
 ghost use Rattle.abi_base.specs.Outcome.{Judges, first};
@@ -9,13 +9,13 @@ ghost use Rattle.elf.specs.versions.Versions.{version_fault};
 ghost use Rattle.elf_needs.specs.Indexes.{indexes_of};
 ghost use Rattle.elf_needs.specs.Needs.{needs_fault};
 ghost use Rattle.elf_needs.specs.Plain.{plain_need, needed};
-ghost use Rattle.app_check.specs.Imports.{index_in, need_by, imports_with, import_fault_of, import_fault_with, imports_fault, imports_of, app_fault};
+ghost use Rattle.app_check.specs.Imports.{index_in, need_by, need_bytes, all_need_bytes, most_need_bytes, imports_with, import_fault_of, import_fault_with, imports_fault, imports_of, app_fault};
 ghost use Rattle.app_check.specs.Imports as spec;
 ghost use Rattle.app_check.specs.Plain.{plain_import, plain_imports};
 
 use crate::import::Import;
-use abi_base::{Fault, FaultKind, INPUT_LIMIT, NoMemory, Refusal};
-use elf::constants::{SHN_UNDEF, STB_GLOBAL, STB_GNU_UNIQUE, STB_WEAK, VER_NDX_GLOBAL};
+use abi_base::{Effort, Fault, FaultKind, INPUT_LIMIT, Limit, NoMemory, Refusal};
+use elf::constants::{SHN_UNDEF, STB_GLOBAL, STB_GNU_UNIQUE, STB_WEAK, SYM_SIZE, VER_NDX_GLOBAL};
 use elf::file::{ElfFile, read_elf};
 use elf::symbols::{Symbol, soname, symbols};
 use elf::versions::versions;
@@ -98,19 +98,38 @@ fn import_fault(needs: &Needs, indexes: &Indexes, symbols: &[Symbol]) -> Option<
     None
 }
 
-// The imports among these symbols, in order.
+// Keeps an import behind those before it, as long as there is effort for the names of its version and of its file.
+fn keep<'a>(
+    imports: &mut Vec<Import<'a>>,
+    import: Import<'a>,
+    effort: &mut Effort,
+) -> Result<(), NoMemory>
+    ensures kept { OnOk result (imports.new.items ≡ imports.old.items ++ import.entry ∷ []) }
+    ensures spent { OnOk result (effort.old.left ≡ effort.new.left + need_bytes (plain_import import.entry)) }
+{
+    if let Some(need) = import.need {
+        effort.spend(need.version.len())?;
+        effort.spend(need.file.len())?;
+    }
+    Ok(imports.push(import)?)
+}
+
+// The imports among these symbols, in order. Whoever looks for what they bind to compares the version and the file of each, which
+// all of them may share, and which may have long names.
 fn imports_in<'a>(
     alloc: Global,
     needs: &Needs<'a>,
     indexes: &Indexes,
     symbols: &[Symbol<'a>],
 ) -> Result<Vec<Import<'a>>, NoMemory>
-    ensures { IfOk result (λ imports. plain_imports imports.items ≡ imports_with (needed needs.now) indexes.now (plain_symbols symbols.now)) }
+    ensures read { IfOk result (λ imports. plain_imports imports.items ≡ imports_with (needed needs.now) indexes.now (plain_symbols symbols.now)) }
+    ensures short { IfOk result (λ imports. all_need_bytes (plain_imports imports.items) ≤ most_need_bytes (length symbols.now)) }
 {
     let mut imports = Vec::new(alloc);
+    let mut effort = Effort::for_bytes(Limit::VersionNeeds, symbols.len().saturating_mul(SYM_SIZE));
     for symbol in symbols {
         if let Some(import) = import_of(needs, indexes, symbol) {
-            imports.push(import)?;
+            keep(&mut imports, import, &mut effort)?;
         }
     }
     Ok(imports)
@@ -139,6 +158,7 @@ fn imports_among<'a>(
     requires { plain_symbols symbols.now ≡ symbols_of file.now }
     ensures judged { Judges result (first (version_fault file.now (length (symbols_of file.now)) ∷ needs_fault file.now ∷ imports_fault file.now ∷ [])) }
     ensures read { IfOk result (λ imports. plain_imports imports.items ≡ imports_of file.now) }
+    ensures short { IfOk result (λ imports. all_need_bytes (plain_imports imports.items) ≤ most_need_bytes (length (symbols_of file.now))) }
 {
     versions(alloc, file, symbols.len())?;
     let needs = needs(alloc, file)?;
@@ -151,12 +171,14 @@ fn imports_among<'a>(
 }
 
 /// The imports of an application, in the order of their symbols. Err is the first fault of `ShortFile` to
-/// `VersionDefinition`, of `VersionNeed` and of `ImportVersion`.
+/// `VersionDefinition`, of `VersionNeed` and of `ImportVersion`. Imports can share a version and a file with long names: where these
+/// names, counted for each import, exceed a budget for the symbol table (`Effort`), the answer is `NoMemory`.
 #[tactic(auto, unfolding(crate::specs::Imports::app_fault))]
 pub fn read_app<'a>(alloc: Global, bytes: &'a [u8]) -> Result<Vec<Import<'a>>, Refusal>
     requires { length bytes.now ≤ input_limit }
     ensures judged { Judges result (app_fault bytes.now) }
     ensures read { IfOk result (λ imports. plain_imports imports.items ≡ imports_of bytes.now) }
+    ensures short { IfOk result (λ imports. all_need_bytes (plain_imports imports.items) ≤ most_need_bytes (length (symbols_of bytes.now))) }
 {
     let file = read_elf(bytes)?;
     let symbols = symbols(alloc, &file)?;

@@ -47,7 +47,7 @@ pub(crate) fn may_come_from(import: &Import, soname: Option<&[u8]>) -> bool
     }
 }
 
-// The exports that the imports look for, if the file with this soname may define them.
+// The exports that the imports look for, if the file with this soname may define them. The file of each is compared.
 fn wanted_of<'a>(
     alloc: Global,
     imports: &[Import<'a>],
@@ -91,7 +91,7 @@ fn marked(alloc: Global, found: &HashSet<usize>, count: usize) -> Result<Vec<boo
 
 /// For each export of a library, whether an import binds to it. An import without a version binds like an export without a version.
 /// One with a version binds by name and version if its file is the library's soname. Each import is looked up in maps of the
-/// exports.
+/// exports, so its version and its file are compared, whose bytes `read_app` bounds for all imports together.
 pub fn used(
     alloc: Global,
     imports: &[Import],

@@ -15,4 +15,4 @@ returns-clause-judged c =
 
 pub returns-clause-read : goal.returns-clause-read
 returns-clause-read c =
-    c.in_ok-imports.ensures ∙ imports_are c.args.file.now c.args.symbols.now (needed c.in_ok-needs.needs) c.in_ok-indexes.indexes c.requires c.in_ok-needs.ensures.read c.in_ok-indexes.ensures
+    c.in_ok-imports.ensures.read ∙ imports_are c.args.file.now c.args.symbols.now (needed c.in_ok-needs.needs) c.in_ok-indexes.indexes c.requires c.in_ok-needs.ensures.read c.in_ok-indexes.ensures
