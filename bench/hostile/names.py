@@ -139,6 +139,45 @@ def lacking_names(count: int) -> Case:
     return applied(image(app), image([*symbol_sections([], b"\0s\0"), soname_section(1)]))
 
 
+def importing(count: int, file: str, version: str) -> bytes:
+    """An application with imports of one name, which all need the same version of the same file."""
+    names, (name_at, file_at, version_at) = table_of(["f", file, version])
+    need = u16(1) + u16(1) + u32(file_at) + u32(16) + u32(0) + u32(0) + u16(0) + u16(2) + u32(version_at) + u32(0)
+    app = [
+        *symbol_sections([Symbol(name_at, 0, section=0)] * count, names),
+        Section(b".gnu.version", SHT_GNU_VERSYM, u16(0) + u16(2) * count, link=1, entry_size=2),
+        Section(b".gnu.version_r", SHT_GNU_VERNEED, need, link=2, info=1),
+    ]
+    return image(app)
+
+
+def imports_of_a_file(count: int) -> Case:
+    """Imports that need a file with a long name. The soname of the library differs in the last byte."""
+    names, (soname_at,) = table_of(["n" * (16 * count) + "t"])
+    library = image([*symbol_sections([], names), soname_section(soname_at)])
+    return applied(importing(count, "n" * (16 * count) + "s", "v"), library)
+
+
+def imports_of_a_version(count: int) -> Case:
+    """Imports that need a version with a long name. The library defines a version that differs in the last byte,
+    and has local symbols, so that the bytes of its exports stay below their limit."""
+    names, (name_at, version_at, soname_at) = table_of(["f", "v" * (16 * count) + "t", "s"])
+    others = count // 64
+    symbols = [Symbol(name_at, 0x1000)] + [Symbol(name_at, 0, info=0)] * others
+    versions = version_sections([0, 2] + [0] * others, [version_at])
+    library = [*symbol_sections(symbols, names), *versions, soname_section(soname_at)]
+    return applied(importing(count, "s", "v" * (16 * count) + "s"), image(library))
+
+
+def alike_needed_names(count: int) -> Case:
+    """An application that asks for a file with a long name again and again. The soname of the library differs in the last byte."""
+    app_names, (needed_at,) = table_of(["n" * (16 * count) + "s"])
+    names, (soname_at,) = table_of(["n" * (16 * count) + "t"])
+    app = image([*symbol_sections([], app_names), needed_section(needed_at, count)])
+    library = image([*symbol_sections([], names), soname_section(soname_at)])
+    return Case({"app": app, "old": library}, ["app", "app", "old", "old"], with_notes=True)
+
+
 def hidden_names(count: int) -> Case:
     """Local symbols that all have the same long name."""
     names = b"\0" + b"s" * (20 * count) + b"\0"
@@ -166,6 +205,9 @@ KINDS = [
     Kind("gone_ends", "n symbols whose names are the ends of texts of 2,500 bytes, and all are gone", gone_ends, 5000),
     Kind("added_ends", "the same the other way round, with notes", added_ends, 5000),
     Kind("needed_names", "an application that needs n times a file with a name of 16 n bytes, by abi app", needed_names, 5000),
+    Kind("alike_needed_names", "the same, but the library's soname differs from it in the last byte, with notes", alike_needed_names, 5000),
+    Kind("imports_of_a_file", "n imports from a file with a name of 16 n bytes, from which the soname differs in the last byte, by abi app", imports_of_a_file, 5000),
+    Kind("imports_of_a_version", "n imports of a version of 16 n bytes, from which that of the library differs in the last byte, by abi app", imports_of_a_version, 5000),
     Kind("lacking_names", "n imports whose names are the ends of texts of 2,500 bytes, all lacking, by abi app", lacking_names, 5000),
     Kind("hidden_names", "n local symbols whose names are one text of 20 n bytes", hidden_names, 5000),
     Kind("section_names", "n sections whose names are one text of 20 n bytes", section_names, 2000),

@@ -43,6 +43,7 @@ def _elf_figures(library: str) -> Figures:
             "definitions": elf_tables.definitions(elf),
             "exports": elf_tables.exports(elf),
             "needs": elf_tables.needs(elf),
+            "imports": elf_tables.imports(elf),
             "soname": elf_tables.soname(elf),
         }
 

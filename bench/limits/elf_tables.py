@@ -82,6 +82,24 @@ def needs(elf: ELFFile) -> Figure:
     return times_read(found, section["sh_size"] + strings["sh_size"])
 
 
+def imports(elf: ELFFile) -> Figure:
+    """The names of the version and of the file that each symbol needs, as `abi app` counts them for a program."""
+    needed = _section(elf, "SHT_GNU_verneed")
+    indexes = _section(elf, "SHT_GNU_versym")
+    if needed is None or indexes is None:
+        return Figure(0, 0)
+    lengths = {
+        auxiliary["vna_other"] & _INDEX: _length(need.name) + _length(auxiliary.name)
+        for need, auxiliaries in needed.iter_versions()
+        for auxiliary in auxiliaries
+    }
+    found = 0
+    for number in range(1, indexes.num_symbols()):
+        index = indexes.get_symbol(number)["ndx"]
+        found += lengths.get(index & _INDEX, 0) if isinstance(index, int) else 0
+    return times_read(found, _SYMBOL * indexes.num_symbols())
+
+
 def soname(elf: ELFFile) -> Figure:
     """The bytes of the soname."""
     dynamic = _section(elf, "SHT_DYNAMIC")

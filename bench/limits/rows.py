@@ -51,6 +51,8 @@ ROWS = [
     Row("needs", "`app`, needs of versions: 16 bytes for each file and each version, and the names",
         "version needs",
         f"{_TIMES} times the bytes of their section"),
+    Row("imports", "`app`, imports: the names of the version and of the file that each one needs",
+        "version needs", f"{_TIMES * _SYMBOL:,} bytes for each symbol"),
     Row("lists", "Range lists of functions: the bytes of each up to its first range",
         "range lists",
         f"{_TIMES} times the bytes of `.debug_rnglists` and `.debug_ranges`"),
