@@ -1,5 +1,5 @@
 // Versions, each once.
-ghost use Rattle.std.specs.Prelude.{◌≡◌, [], ℕ, List, map, OnOk};
+ghost use Rattle.std.specs.Prelude.{◌≡◌, [], ℕ, List, map, OnOk, OnErr};
 ghost use Rattle.std.specs.Borrow.{Bor};
 ghost use Rattle.std.specs.List.{list_any};
 ghost use Rattle.std.specs.Str.{bytes_eq};
@@ -48,9 +48,10 @@ impl<'a> VersionList<'a> {
         self.known.contains(version)
     }
 
-    /// Adds a version last, where it is new.
+    /// Adds a version last, where it is new. After `NoMemory` the list is unchanged.
     pub fn add(&mut self, version: &'a [u8]) -> Result<(), NoMemory>
-        ensures { OnOk result (self.new ≡ with_first bytes_eq self.old version.now) }
+        ensures ok { OnOk result (self.new ≡ with_first bytes_eq self.old version.now) }
+        ensures err { OnErr result (self.new ≡ self.old) }
     {
         // This room is reserved first, so that nothing can fail once the version is in the tree.
         self.list.reserve(1)?;
