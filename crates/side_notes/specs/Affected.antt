@@ -1,6 +1,8 @@
 -- The exports that lead to two types which break a rule, beside the one that the row on these names.
-use Rattle.std.specs.Prelude.{◌≡◌, ◌==◌, ◌&&◌, ℕ, Bool, if◌then◌else◌, List, [], ◌∷◌, ◌++◌, codes, flat_map, map, Contains, Option, Some, None, slice_get}
+use Rattle.std.specs.Prelude.{◌≡◌, ◌==◌, ◌&&◌, ◌+◌, ℕ, Bool, if◌then◌else◌, List, [], ◌∷◌, ◌++◌, length, codes, flat_map, map, Contains, Option, Some, None, slice_get}
+use Rattle.std.specs.Option.{option_map_or}
 use Rattle.abi_base.specs.Lists.{firsts}
+use Rattle.abi_types.specs.Exports.{PlainExport}
 use Rattle.abi_types.specs.Libraries.{PlainLibrary}
 use Rattle.pair_rules.specs.declared.rules.Broken.{Broken}
 use Rattle.pair_rules.specs.Paths.{Path}
@@ -65,6 +67,20 @@ notes_by l path exports (Some v) = notes_beside l path exports
 -- those at the row of the visit of a number, where it is there
 unfoldable pub row_notes : PlainLibrary → List Visit → ℕ × List ℕ → List Note
 row_notes l visits row = notes_by l (path_at visits row.0) row.1 (slice_get visits row.0)
+
+-- ---- what a note takes
+
+-- how many letters the name of the export at a position has
+abbrev pub name_len_at : PlainLibrary → ℕ → ℕ
+name_len_at l export = option_map_or (λ (e : PlainExport). length e.name) (slice_get l.exports export) 0
+
+-- what counts for a note besides its letters
+abbrev pub bare_note_size : ℕ
+bare_note_size = 128
+
+-- what counts for the note on an export at the row with a text: the letters of the export's name and of the text, and the rest
+abbrev pub note_size : PlainLibrary → List ℕ → ℕ → ℕ
+note_size l row export = name_len_at l export + length row + bare_note_size
 
 -- ---- the notes on all rows
 

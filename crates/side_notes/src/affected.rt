@@ -1,5 +1,7 @@
 // The exports that lead to two types that break a rule, without the export that the row of the break names.
-ghost use Rattle.std.specs.Prelude.{◌≡◌, ◌<◌, ◌++◌, length, codes, flat_map, string_bytes, IfOk, OnOk};
+ghost use Rattle.std.specs.Prelude.{◌≡◌, ◌<◌, ◌+◌, ◌++◌, length, codes, flat_map, string_bytes, sum_by, IfErr, IfOk, OnErr, OnOk};
+ghost use Rattle.abi_base.specs.declared.fault.NoMemory.TheVariants.{Past};
+ghost use Rattle.abi_base.specs.declared.limit.Limit.TheVariants.{AffectedExports};
 ghost use Rattle.pair_explorer.specs.Explorations.{IsExploration};
 ghost use Rattle.pair_explorer.specs.GraphPairs.{scope_of};
 ghost use Rattle.pair_explorer.specs.Routes.{path_of};
@@ -11,11 +13,12 @@ ghost use Rattle.pair_compare.specs.BoundPair.{IsBinding, sides_of};
 ghost use Rattle.pair_compare.specs.Marking.{AreMarksOf};
 ghost use Rattle.pair_compare.specs.reports.PathTexts as path_texts;
 ghost use Rattle.pair_compare.specs.reports.TypeFindings.{IsCoarse};
-ghost use Rattle.side_notes.specs.Affected.{AddsRow, AreAffected, AreRowNotes, AreSpelled, as_row, note_beside, row_notes};
+ghost use Rattle.side_notes.specs.Affected.{AddsRow, AreAffected, AreRowNotes, AreSpelled, as_row, note_beside, note_size, row_notes};
 ghost use Rattle.side_notes.specs.Affected as spec;
 ghost use Rattle.side_notes.specs.NoteTexts.{behind};
 
 use crate::making::bytes_of;
+use crate::old_exports::export_at;
 use abi_base::{Effort, Limit, List, NoMemory, taken};
 use abi_types::{Index, Library, NewIx, OldIx};
 use leading_exports::{Arrow, Walk, arrows_of, exports_to, numbers_of};
@@ -146,6 +149,16 @@ const STEP_BYTES_AT_LEAST: usize = 65_536;
 // What a note takes besides its texts, in bytes.
 const NOTE: usize = 128;
 
+// The number of letters of the name of the old export at a position, 0 where there is none.
+fn name_len_at(library: &Library<OldIx>, export: u32) -> usize
+    ensures { result ≡ spec.name_len_at library.now export }
+{
+    match export_at(library, export as usize) {
+        None => 0,
+        Some(export) => export.name.len(),
+    }
+}
+
 // What the notes on exports may still take: steps along the visits and arrows at each row, and bytes.
 #[derive(Drop)]
 struct NoteRoom {
@@ -168,15 +181,39 @@ impl NoteRoom {
         }
     }
 
-    // Takes the notes on exports at a row.
-    fn take_notes(&mut self, row: &TypeRow, exports: &[u32]) -> Result<(), NoMemory> {
+    // Takes so many bytes. Fails exactly where there are fewer, and names the limit.
+    fn take(&mut self, bytes: usize) -> Result<(), NoMemory>
+        ensures ok { OnOk result (self.old.bytes ≡ self.new.bytes + bytes) }
+        ensures err { OnErr result (self.old.bytes < bytes) }
+        ensures named { IfErr result (λ e. e ≡ Past AffectedExports) }
+        ensures steps { self.new.steps ≡ self.old.steps }
+    {
+        self.bytes = taken(Limit::AffectedExports, self.bytes, bytes)?;
+        Ok(())
+    }
+
+    // Takes the note on an export at a row, by the letters of the export's name and of the row's text. Fails exactly where there are
+    // fewer bytes, and names the limit.
+    fn take_note(&mut self, row: &TypeRow, export: u32) -> Result<(), NoMemory>
+        ensures ok { OnOk result (self.old.bytes ≡ self.new.bytes + note_size row.now.library.now row.now.text.now export) }
+        ensures err { OnErr result (self.old.bytes < note_size row.now.library.now row.now.text.now export) }
+        ensures named { IfErr result (λ e. e ≡ Past AffectedExports) }
+        ensures steps { self.new.steps ≡ self.old.steps }
+    {
+        self.take(name_len_at(row.library, export))?;
+        self.take(row.text.len())?;
+        self.take(NOTE)
+    }
+
+    // Takes the notes on exports at a row, one for each export. Fails exactly where there are fewer bytes, and names the limit.
+    fn take_notes(&mut self, row: &TypeRow, exports: &[u32]) -> Result<(), NoMemory>
+        ensures ok { OnOk result (self.old.bytes ≡ self.new.bytes + sum_by (note_size row.now.library.now row.now.text.now) exports.now) }
+        ensures err { OnErr result (self.old.bytes < sum_by (note_size row.now.library.now row.now.text.now) exports.now) }
+        ensures named { IfErr result (λ e. e ≡ Past AffectedExports) }
+        ensures steps { self.new.steps ≡ self.old.steps }
+    {
         for export in exports {
-            let letters = match row.library.exports().get(*export as usize) {
-                Some(export) => export.name.len(),
-                None => 0,
-            };
-            let bytes = letters.saturating_add(row.text.len()).saturating_add(NOTE);
-            self.bytes = taken(Limit::AffectedExports, self.bytes, bytes)?;
+            self.take_note(row, *export)?;
         }
         Ok(())
     }
@@ -197,31 +234,37 @@ fn push_others(
     Ok(())
 }
 
-// Adds the notes on exports at the row of the visit of a number.
+// The number of a visit, and the exports that lead to its types.
+#[derive(Clone, Copy)]
+struct LedVisit<'x> {
+    number: usize,
+    exports: &'x [u32],
+}
+
+// Adds the notes on exports at the row of a visit.
 fn push_at(
     alloc: Global,
     notes: &mut List<Note>,
     ground: &Ground,
-    number: usize,
-    exports: &[u32],
+    led: &LedVisit,
     room: &mut NoteRoom,
 ) -> Result<(), NoMemory>
     requires { AreSpelled ground.now.library.now ground.now.walk.now.visits.now }
-    ensures { OnOk result (notes.new ≡ notes.old ++ row_notes ground.now.library.now ground.now.walk.now.visits.now (number, exports.now)) }
+    ensures { OnOk result (notes.new ≡ notes.old ++ row_notes ground.now.library.now ground.now.walk.now.visits.now (led.now.number, led.now.exports.now)) }
 {
     parents_spell_paths();
-    let Some(_visit) = ground.walk.visits.get(number) else {
+    let Some(_visit) = ground.walk.visits.get(led.number) else {
         return Ok(());
     };
-    let route = route_to(alloc, ground.walk.visits, number)?;
+    let route = route_to(alloc, ground.walk.visits, led.number)?;
     let text = row_text(alloc, ground.library, &route)?;
     let row = TypeRow {
         library: ground.library,
         export: route.export,
         text: text.as_slice(),
     };
-    room.take_notes(&row, exports)?;
-    push_others(alloc, notes, &row, exports)
+    room.take_notes(&row, led.exports)?;
+    push_others(alloc, notes, &row, led.exports)
 }
 
 // ---- all rows
@@ -242,7 +285,11 @@ fn push_row(
     let (old, new) = pair_at(ground.walk.visits, number);
     let pair = (OldIx::of(old), NewIx::of(new));
     let exports = exports_to(alloc, ground.walk, ground.arrows, pair, &mut room.steps)?;
-    push_at(alloc, notes, ground, number, exports.as_slice(), room)
+    let led = LedVisit {
+        number,
+        exports: exports.as_slice(),
+    };
+    push_at(alloc, notes, ground, &led, room)
 }
 
 // The notes at the rows of the visits with these numbers. Where it takes too many steps, or the notes have too many bytes, memory

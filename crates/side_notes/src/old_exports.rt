@@ -49,8 +49,8 @@ fn push_on(
     }
 }
 
-// The old export at a position, where there is one.
-fn export_at<'x, 'o>(library: &'x Library<'o, OldIx>, k: usize) -> Option<&'x Export<'o>>
+/// The old export at a position, where there is one.
+pub fn export_at<'x, 'o>(library: &'x Library<'o, OldIx>, k: usize) -> Option<&'x Export<'o>>
     ensures { MatchOption result (slice_get library.now.exports k ≡ None) (λ export. slice_get library.now.exports k ≡ Some (plain_export export.now)) }
 {
     library.exports().get(k)
