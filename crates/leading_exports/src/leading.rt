@@ -18,7 +18,7 @@ use pair_rules::Triple;
 use pair_rules::laws::steps_lead_to_nodes;
 use std::alloc::Global;
 
-// What a root takes, in bytes of effort. It is looked up, which takes as long as to read so many marks.
+// The effort for a root: looking it up costs about as much as reading 16 marks.
 const ROOT: usize = 16;
 
 // Whether a visit is of two types, and its old node is unmarked at its way.

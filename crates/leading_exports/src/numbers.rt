@@ -17,8 +17,7 @@ use std::marker::Model;
 /// The numbers of visits. Contracts see them as a list of triples with their numbers.
 #[derive(Drop)]
 pub struct Numbers {
-    // The numbers, by the keys of triples. A file decides which types meet, and could make the hash codes of their triples collide, so
-    // they stand in a search tree.
+    // The numbers, by the keys of triples. A search tree, since a file could make the hash codes of its triples collide.
     by_key: BTreeMap<(usize, usize, bool), usize>,
 }
 
@@ -32,7 +31,7 @@ impl Model for Numbers {
     ghost view = { λ numbers. map numbered numbers.by_key.entries };
 }
 
-// The key of a triple.
+// The key of a triple, with numbers as wide as those of types, so that it never fails.
 fn key_of(triple: &Triple) -> (usize, usize, bool)
     ensures { result ≡ keys.key_of triple.now }
 {
