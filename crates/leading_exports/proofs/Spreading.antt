@@ -1,13 +1,14 @@
 -- Marks that spread back along arrows.
-use Rattle.std.proofs.Common.{◌≡◌, ◌≢◌, ◌<◌, ◌≤◌, ◌+◌, ◌⊎◌, ⊎_elim, inl, inr, ℕ, Bool, true, false, not, ◌||◌, List, [], ◌∷◌, ◌++◌, Some, length, get_or, set, count_by, cond, refl, sym, ap, ◌∙◌, subst, arith}
+use Rattle.std.proofs.Common.{◌≡◌, ◌≢◌, ◌<◌, ◌≤◌, ◌+◌, ◌⊎◌, ⊎_elim, inl, inr, ℕ, suc, Bool, true, false, not, ◌||◌, List, [], ◌∷◌, ◌++◌, Some, length, get_or, set, count_by, cond, refl, sym, ap, ◌∙◌, subst, arith}
 use Rattle.std.specs.Prelude.{◌↔◌, Contains, slice_get, slice_index_or, slice_set}
 use Rattle.std.proofs.lemmas.List.{get_or-set_same, get_or-set_other, length-set}
 use Rattle.std.proofs.lemmas.List.Sums.{sum_by-set}
 use Rattle.std.proofs.lemmas.Option.{slice_get_within}
 use Rattle.std.proofs.lemmas.Bool.{cases_eq, false≢true}
 use Rattle.std.proofs.Math.Bool.{or-false, or-true}
+use Rattle.std.proofs.Math.Nat.{suc-mul}
 use Rattle.abi_base.proofs.lemmas.Lists.{contains_at, at_contains}
-use Rattle.leading_exports.specs.Arrows.{IsMarked, LeadsThrough, LeadsToMark, IsSpread, KeepsMarks, IsClosedAt, AreClosed}
+use Rattle.leading_exports.specs.Arrows.{IsMarked, LeadsThrough, LeadsToMark, IsSpread, KeepsMarks, IsClosedAt, AreClosed, TakesPasses}
 
 -- what holds once the arrows from a place on were followed
 pub record Passing (arrows : List (ℕ × ℕ)) (before marks : List Bool) (left : ℕ) (is_new : Bool) : Type 0 where
@@ -139,6 +140,13 @@ Passed-more arrows before between after so same spread kept = record {
   spread = IsSpread-twice arrows before between after so.spread spread;
   kept = λ m marked. kept m (so.kept m marked);
 }
+
+-- no pass takes nothing, and one more takes one byte's effort for each arrow
+pub TakesPasses-none : (arrows left : ℕ) → TakesPasses arrows left left
+TakesPasses-none arrows left = record { passes = 0; are = omega arith }
+
+pub TakesPasses-more : (arrows before between after : ℕ) → TakesPasses arrows before between → between ≡ after + arrows → TakesPasses arrows before after
+TakesPasses-more arrows before between after so one = record { passes = suc so.passes; are = omega (arith, so.are, one, suc-mul so.passes arrows) }
 
 -- what leads to a mark is marked where each arrow to a mark comes from one
 closed_lead : (arrows : List (ℕ × ℕ)) (marks : List Bool) (through : List ℕ) (m z : ℕ) → AreClosed arrows marks → LeadsThrough arrows through m z → IsMarked marks z → IsMarked marks m

@@ -1,5 +1,5 @@
 -- Arrows between numbers, and marked numbers.
-use Rattle.std.specs.Prelude.{◌≡◌, ◌<◌, ℕ, Bool, true, false, List, [], ◌∷◌, Contains, slice_index_or}
+use Rattle.std.specs.Prelude.{◌≡◌, ◌<◌, ◌+◌, ◌*◌, ℕ, Bool, true, false, List, [], ◌∷◌, Contains, slice_index_or}
 
 -- the number is marked; a number past the end is not
 abbrev pub IsMarked : List Bool → ℕ → Type 0
@@ -36,3 +36,8 @@ AreClosed arrows marks = (arrow : ℕ × ℕ) → Contains arrows arrow → IsCl
 -- the arrows come from numbers below the count
 abbrev pub ComeFromInside : List (ℕ × ℕ) → ℕ → Type 0
 ComeFromInside arrows count = (arrow : ℕ × ℕ) → Contains arrows arrow → arrow.0 < count
+
+-- Passes over so many arrows take all that is no longer left, one byte's effort for each arrow.
+pub record TakesPasses (arrows before after : ℕ) : Type 0 where
+  pub passes : ℕ
+  pub are : before ≡ after + passes * arrows

@@ -1,5 +1,5 @@
 -- The exports that lead to two types.
-use Rattle.std.specs.Prelude.{◌≡◌, ◌<◌, ◌↔◌, ◌==◌, ◌&&◌, ℕ, Bool, false, not, List, Option, Some, None, Contains, slice_get, slice_index_or}
+use Rattle.std.specs.Prelude.{◌≡◌, ◌<◌, ◌+◌, ◌-◌, ◌*◌, ◌^◌, ◌↔◌, ◌==◌, ◌&&◌, min, ℕ, Bool, false, not, List, Option, Some, None, Contains, slice_get, slice_index_or}
 use Rattle.abi_types.specs.declared.kind.Way.{Way}
 use Rattle.pair_rules.specs.Paths.{Path, From, Then, root_triple}
 use Rattle.pair_rules.specs.Steps.{PlainRoot, Triple, is_marked}
@@ -24,6 +24,11 @@ pub record LeadsToPair (s : Scope) (a b export : ℕ) : Type 0 where
 pub record AreLeading (s : Scope) (a b : ℕ) (exports : List ℕ) : Type 0 where
   pub ascend : (i j k l : ℕ) → i < j → slice_get exports i ≡ Some k → slice_get exports j ≡ Some l → k < l
   pub exact : (export : ℕ) → Contains exports export ↔ LeadsToPair s a b export
+
+-- The least effort for so many visits, arrows and roots: one for each visit and each arrow, and 16 for each root, of which no more
+-- is asked than a budget holds.
+abbrev pub least_effort : ℕ → ℕ → ℕ → ℕ
+least_effort visits arrows roots = visits + arrows + min (roots * 16) (2 ^ 64 - 1)
 
 -- ---- by marks
 

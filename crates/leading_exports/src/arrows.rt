@@ -1,6 +1,7 @@
 // Which numbers lead to marked ones along arrows.
-ghost use Rattle.std.specs.Prelude.{◌≡◌, ◌<◌, ◌≤◌, ◌↔◌, ℕ, true, false, not, length, count_by, slice_index_or, slice_set, IsTrue, OnOk};
-ghost use Rattle.leading_exports.specs.Arrows.{AreClosed, ComeFromInside, IsClosedAt, IsMarked, IsSpread, KeepsMarks, LeadsToMark};
+ghost use Rattle.std.specs.Prelude.{◌≡◌, ◌<◌, ◌≤◌, ◌↔◌, ℕ, true, false, not, length, count_by, slice_index_or, slice_set, IsTrue, IfErr, OnOk, OnErr};
+ghost use Rattle.abi_base.specs.declared.fault.NoMemory.TheVariants.{Past};
+ghost use Rattle.leading_exports.specs.Arrows.{AreClosed, ComeFromInside, IsClosedAt, IsMarked, IsSpread, KeepsMarks, LeadsToMark, TakesPasses};
 
 use abi_base::{Effort, NoMemory};
 
@@ -65,7 +66,11 @@ pub fn mark_leading(
     effort: &mut Effort,
 ) -> Result<(), NoMemory>
     requires { ComeFromInside arrows.now (length marks.old) }
-    ensures { OnOk result ((m : ℕ) → IsMarked marks.new m ↔ LeadsToMark arrows.now marks.old m) }
+    ensures marked { OnOk result ((m : ℕ) → IsMarked marks.new m ↔ LeadsToMark arrows.now marks.old m) }
+    ensures spent { TakesPasses (length arrows.now) effort.old.left effort.new.left }
+    ensures err { OnErr result (effort.new.left < length arrows.now) }
+    ensures named { IfErr result (λ e. e ≡ Past effort.old.limit) }
+    ensures limit { effort.new.limit ≡ effort.old.limit }
 {
     'passes: while follow_all(arrows, marks) {
         effort.spend(arrows.len())?;

@@ -1,10 +1,10 @@
 // The exports that lead to two types.
-ghost use Rattle.std.specs.Prelude.{◌≡◌, ◌<◌, length, filter, map, slice_get, Some, IfOk, ℕ, List};
+ghost use Rattle.std.specs.Prelude.{◌≡◌, ◌<◌, ◌≤◌, ◌+◌, length, filter, map, slice_get, Some, IfOk, OnOk, ℕ, List};
 ghost use Rattle.pair_rules.specs.Steps.{PlainRoot};
 ghost use Rattle.pair_explorer.specs.GraphPairs.{scope_of};
 ghost use Rattle.pair_explorer.specs.Scopes.{HasNodes};
 ghost use Rattle.leading_exports.specs.Drawing.{all_arrows};
-ghost use Rattle.leading_exports.specs.Leading.{AreLeading};
+ghost use Rattle.leading_exports.specs.Leading.{AreLeading, least_effort};
 ghost use Rattle.leading_exports.specs.Leading as spec;
 ghost use Rattle.leading_exports.specs.Walks.{IsWalk};
 
@@ -92,7 +92,10 @@ pub fn exports_to(
 ) -> Result<List<u32>, NoMemory>
     requires walk { IsWalk (scope_of walk.now.ground.now) walk.now.visits.now walk.now.numbers.now }
     requires arrows { arrows.now ≡ all_arrows (scope_of walk.now.ground.now) walk.now.visits.now walk.now.numbers.now }
-    ensures { IfOk result (AreLeading (scope_of walk.now.ground.now) pair.0 pair.1) }
+    ensures leading { IfOk result (AreLeading (scope_of walk.now.ground.now) pair.0 pair.1) }
+    ensures least { OnOk result (effort.new.left + least_effort (length walk.now.visits.now) (length arrows.now) (length walk.now.ground.now.roots.now) ≤ effort.old.left) }
+    ensures spent { effort.new.left ≤ effort.old.left }
+    ensures limit { effort.new.limit ≡ effort.old.limit }
 {
     what_is_visited_has_a_visit();
     steps_lead_to_nodes();

@@ -50,7 +50,7 @@ fn push_on(
 }
 
 /// The old export at a position, where there is one.
-pub fn export_at<'x, 'o>(library: &'x Library<'o, OldIx>, k: usize) -> Option<&'x Export<'o>>
+pub(crate) fn export_at<'x, 'o>(library: &'x Library<'o, OldIx>, k: usize) -> Option<&'x Export<'o>>
     ensures { MatchOption result (slice_get library.now.exports k ≡ None) (λ export. slice_get library.now.exports k ≡ Some (plain_export export.now)) }
 {
     library.exports().get(k)
