@@ -1,6 +1,7 @@
 // The numbers of visits, by what they visit.
-ghost use Rattle.std.specs.Prelude.{◌≡◌, [], cond, Some, IfOk, OnOk};
+ghost use Rattle.std.specs.Prelude.{◌≡◌, [], cond, Some, IfErr, IfOk, OnOk};
 ghost use Rattle.std.specs.Option.{option_copied};
+ghost use Rattle.abi_base.specs.declared.fault.NoMemory.TheVariants.{Allocation};
 ghost use Rattle.pair_rules.specs.Steps.{Triple as PlainTriple};
 ghost use Rattle.pair_explorer.specs.Keys.{at_triple};
 ghost use Rattle.pair_explorer.specs.Keys as keys;
@@ -62,7 +63,8 @@ impl Numbers {
 
     // Gives a triple a number.
     fn insert(&mut self, triple: &Triple, number: usize) -> Result<(), NoMemory>
-        ensures { OnOk result ((q : PlainTriple) → number_in self.new q ≡ cond (at_triple triple.now q) (Some number) (number_in self.old q)) }
+        ensures ok { OnOk result ((q : PlainTriple) → number_in self.new q ≡ cond (at_triple triple.now q) (Some number) (number_in self.old q)) }
+        ensures named { IfErr result (λ e. e ≡ Allocation) }
     {
         self.by_key.insert(key_of(triple), number)?;
         Ok(())
@@ -71,7 +73,8 @@ impl Numbers {
 
 /// The number of a visit of each triple that was visited.
 pub fn numbers_of(alloc: Global, visits: &Visits) -> Result<Numbers, NoMemory>
-    ensures { IfOk result (AreNumbers visits.now) }
+    ensures ok { IfOk result (AreNumbers visits.now) }
+    ensures named { IfErr result (λ e. e ≡ Allocation) }
 {
     let mut numbers = Numbers::new(alloc);
     'visits: for number in 0..visits.len() {
