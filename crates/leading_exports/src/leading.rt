@@ -1,5 +1,6 @@
 // The exports that lead to two types.
-ghost use Rattle.std.specs.Prelude.{◌≡◌, ◌<◌, ◌≤◌, ◌+◌, length, filter, map, slice_get, Some, IfOk, OnOk, ℕ, List};
+ghost use Rattle.std.specs.Prelude.{◌≡◌, ◌<◌, ◌≤◌, ◌+◌, ◌⊎◌, length, filter, map, slice_get, Some, IfErr, IfOk, OnOk, ℕ, List};
+ghost use Rattle.abi_base.specs.declared.fault.NoMemory.TheVariants.{Allocation, Past};
 ghost use Rattle.pair_rules.specs.Steps.{PlainRoot};
 ghost use Rattle.pair_explorer.specs.GraphPairs.{scope_of};
 ghost use Rattle.pair_explorer.specs.Scopes.{HasNodes};
@@ -32,7 +33,8 @@ fn is_of_pair(ground: &GraphPair, old: OldIx, new: NewIx, visit: &Visit) -> bool
 
 // A mark for each visit: whether it is of the two types, with an old node that is unmarked at its way.
 fn marks_of(alloc: Global, walk: &Walk, old: OldIx, new: NewIx) -> Result<Vec<bool>, NoMemory>
-    ensures { IfOk result (λ marks. marks.items ≡ map (spec.is_of_pair (scope_of walk.now.ground.now) old new) walk.now.visits.now) }
+    ensures ok { IfOk result (λ marks. marks.items ≡ map (spec.is_of_pair (scope_of walk.now.ground.now) old new) walk.now.visits.now) }
+    ensures named { IfErr result (λ e. e ≡ Allocation) }
 {
     let mut marks = Vec::new(alloc);
     'visits: for number in 0..walk.visits.len() {
@@ -67,9 +69,10 @@ fn is_lead(walk: &Walk, marks: &[bool], root: &Root) -> bool
 // The exports of the roots that lead to a marked triple.
 fn leads_of(alloc: Global, walk: &Walk, marks: &[bool]) -> Result<List<u32>, NoMemory>
     requires { HasNodes (scope_of walk.now.ground.now) }
-    ensures { IfOk result (λ exports. exports ≡ map (λ (root : PlainRoot). root.export) (filter (spec.is_lead (scope_of walk.now.ground.now) walk.now.numbers.now marks.now) walk.now.ground.now.roots.now)) }
+    ensures ok { IfOk result (λ exports. exports ≡ map (λ (root : PlainRoot). root.export) (filter (spec.is_lead (scope_of walk.now.ground.now) walk.now.numbers.now marks.now) walk.now.ground.now.roots.now)) }
+    ensures named { IfErr result (λ e. e ≡ Allocation) }
 {
-    let mut exports = List::new(alloc);
+    let mut exports = Vec::new(alloc);
     let roots = walk.ground.roots;
     'roots: for k in 0..roots.len() {
         let root = roots[k];
@@ -77,7 +80,7 @@ fn leads_of(alloc: Global, walk: &Walk, marks: &[bool]) -> Result<List<u32>, NoM
             exports.push(root.export)?;
         }
     }
-    Ok(exports)
+    Ok(List::of(exports))
 }
 
 /// The exports that lead to two types, in ascending order; `arrows` are those that `arrows_of` returned. It takes one byte's effort
@@ -95,6 +98,7 @@ pub fn exports_to(
     ensures leading { IfOk result (AreLeading (scope_of walk.now.ground.now) pair.0 pair.1) }
     ensures least { OnOk result (effort.new.left + least_effort (length walk.now.visits.now) (length arrows.now) (length walk.now.ground.now.roots.now) ≤ effort.old.left) }
     ensures spent { effort.new.left ≤ effort.old.left }
+    ensures named { IfErr result (λ e. (e ≡ Allocation) ⊎ (e ≡ Past effort.old.limit)) }
     ensures limit { effort.new.limit ≡ effort.old.limit }
 {
     what_is_visited_has_a_visit();
