@@ -1,5 +1,6 @@
 // The texts of notes, and notes on one export.
-ghost use Rattle.std.specs.Prelude.{◌≡◌, IfOk, string_bytes};
+ghost use Rattle.std.specs.Prelude.{◌≡◌, IfErr, IfOk, string_bytes};
+ghost use Rattle.abi_base.specs.declared.fault.NoMemory.TheVariants.{Allocation};
 ghost use Rattle.abi_types.specs.Plain.{plain_export};
 ghost use Rattle.abi_types.specs.Shown.{label, shown};
 ghost use Rattle.side_notes.specs.Made.{note_on_export};
@@ -19,7 +20,8 @@ pub fn bytes_of(text: String) -> List<u8>
 
 /// The label of an export.
 pub fn label_of(alloc: Global, export: &Export) -> Result<List<u8>, NoMemory>
-    ensures { IfOk result (λ text. text ≡ label (plain_export export.now)) }
+    ensures ok { IfOk result (λ text. text ≡ label (plain_export export.now)) }
+    ensures named { IfErr result (λ e. e ≡ Allocation) }
 {
     let mut text = String::new(alloc);
     push_label(alloc, &mut text, export)?;
@@ -28,7 +30,8 @@ pub fn label_of(alloc: Global, export: &Export) -> Result<List<u8>, NoMemory>
 
 /// The printed form of a name.
 pub fn shown_name(alloc: Global, name: &[u8]) -> Result<List<u8>, NoMemory>
-    ensures { IfOk result (λ text. text ≡ shown name.now) }
+    ensures ok { IfOk result (λ text. text ≡ shown name.now) }
+    ensures named { IfErr result (λ e. e ≡ Allocation) }
 {
     let mut text = String::new(alloc);
     push_shown(alloc, &mut text, name)?;
@@ -50,7 +53,8 @@ pub fn note_on(alloc: Global, kind: NoteKind, export: List<u8>, was: List<u8>, i
 
 /// A size in words.
 pub fn sized(alloc: Global, size: u64) -> Result<List<u8>, NoMemory>
-    ensures { IfOk result (λ text. text ≡ spec.sized size) }
+    ensures ok { IfOk result (λ text. text ≡ spec.sized size) }
+    ensures named { IfErr result (λ e. e ≡ Allocation) }
 {
     let text = format!(in alloc; "size {size}")?;
     Ok(bytes_of(text))

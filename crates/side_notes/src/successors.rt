@@ -1,6 +1,7 @@
 // Likely successors of exports that are gone.
-ghost use Rattle.std.specs.Prelude.{◌≡◌, ◌++◌, position, slice_get, IfOk, OnOk, MatchOption, None, Some, ℕ, List};
+ghost use Rattle.std.specs.Prelude.{◌≡◌, ◌++◌, position, slice_get, IfErr, IfOk, OnOk, MatchOption, None, Some, ℕ, List};
 ghost use Rattle.std.specs.Str.{bytes_eq};
+ghost use Rattle.abi_base.specs.declared.fault.NoMemory.TheVariants.{Allocation};
 ghost use Rattle.abi_types.specs.Plain.{plain_export};
 ghost use Rattle.elf_bind.specs.Binding.{is_named};
 ghost use Rattle.side_notes.specs.Successors.{AreKin, KeepsFirst, is_kin, notes_with, successor_in, successor_notes, successor_place};
@@ -27,7 +28,8 @@ pub struct Related<'x, 'o, 'n> {
 
 // Keeps a place for a stem, where it has none.
 fn put<'n>(kin: &mut Kin<'n>, stem: &'n [u8], place: usize) -> Result<(), NoMemory>
-    ensures { OnOk result (KeepsFirst kin.old (bytes_eq stem.now) place kin.new) }
+    ensures ok { OnOk result (KeepsFirst kin.old (bytes_eq stem.now) place kin.new) }
+    ensures named { IfErr result (λ e. e ≡ Allocation) }
 {
     if kin.contains_key(stem) {
         return Ok(());
@@ -43,7 +45,8 @@ fn put_if_added<'n>(
     export: &Export<'n>,
     place: usize,
 ) -> Result<(), NoMemory>
-    ensures { OnOk result (KeepsFirst kin.old (λ (s : List ℕ). is_kin old.now.exports s (plain_export export.now)) place kin.new) }
+    ensures ok { OnOk result (KeepsFirst kin.old (λ (s : List ℕ). is_kin old.now.exports s (plain_export export.now)) place kin.new) }
+    ensures named { IfErr result (λ e. e ≡ Allocation) }
 {
     if has_export(old, export) {
         return Ok(());
@@ -57,7 +60,8 @@ pub fn kin_of<'n>(
     old: &Library<OldIx>,
     new: &Library<'n, NewIx>,
 ) -> Result<Kin<'n>, NoMemory>
-    ensures { IfOk result (λ kin. AreKin old.now.exports new.now.exports kin) }
+    ensures ok { IfOk result (λ kin. AreKin old.now.exports new.now.exports kin) }
+    ensures named { IfErr result (λ e. e ≡ Allocation) }
 {
     let mut kin = BTreeMap::new(alloc);
     let exports = new.exports();

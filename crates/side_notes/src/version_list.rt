@@ -1,9 +1,10 @@
 // Versions, each once.
-ghost use Rattle.std.specs.Prelude.{◌≡◌, [], ℕ, List, map, OnOk, OnErr};
+ghost use Rattle.std.specs.Prelude.{◌≡◌, [], ℕ, List, map, IfErr, OnOk, OnErr};
 ghost use Rattle.std.specs.Borrow.{Bor};
 ghost use Rattle.std.specs.List.{list_any};
 ghost use Rattle.std.specs.Str.{bytes_eq};
 ghost use Rattle.abi_base.specs.Lists.{with_first};
+ghost use Rattle.abi_base.specs.declared.fault.NoMemory.TheVariants.{Allocation};
 
 use abi_base::NoMemory;
 use std::alloc::Global;
@@ -52,6 +53,7 @@ impl<'a> VersionList<'a> {
     pub fn add(&mut self, version: &'a [u8]) -> Result<(), NoMemory>
         ensures ok { OnOk result (self.new ≡ with_first bytes_eq self.old version.now) }
         ensures err { OnErr result (self.new ≡ self.old) }
+        ensures named { IfErr result (λ e. e ≡ Allocation) }
     {
         // This room is reserved first, so that nothing can fail once the version is in the tree.
         self.list.reserve(1)?;
