@@ -1,5 +1,6 @@
 // Notes as lines, for people.
-ghost use Rattle.std.specs.Prelude.{◌≡◌, ◌++◌, ◌≤◌, IfOk, OnOk, count_by};
+ghost use Rattle.std.specs.Prelude.{◌≡◌, ◌++◌, ◌≤◌, IfErr, IfOk, OnOk, count_by};
+ghost use Rattle.abi_base.specs.declared.fault.NoMemory.TheVariants.{Allocation};
 ghost use Rattle.side_notes.specs.NoteTexts.{all_kinds, behind, change_sign_of, counted_to, first_lines, is_of, kind_text, line_end, line_front, line_if, line_start, note_line, rest_line, rest_words};
 ghost use Rattle.side_notes.specs.NoteTexts as spec;
 
@@ -45,7 +46,8 @@ fn kinds() -> &'static [NoteKind]
 
 // Appends bytes.
 fn push(text: &mut Vec<u8>, bytes: &[u8]) -> Result<(), NoMemory>
-    ensures { OnOk result (text.new.items ≡ text.old.items ++ bytes.now) }
+    ensures ok { OnOk result (text.new.items ≡ text.old.items ++ bytes.now) }
+    ensures named { IfErr result (λ e. e ≡ Allocation) }
 {
     text.extend_from_slice(bytes)?;
     Ok(())
@@ -54,7 +56,8 @@ fn push(text: &mut Vec<u8>, bytes: &[u8]) -> Result<(), NoMemory>
 // Appends what a line begins with: that it is a note, and of which kind.
 #[tactic(auto, unfolding(crate::specs::NoteTexts::line_start))]
 fn push_start(text: &mut Vec<u8>, kind: NoteKind) -> Result<(), NoMemory>
-    ensures { OnOk result (text.new.items ≡ text.old.items ++ line_start kind) }
+    ensures ok { OnOk result (text.new.items ≡ text.old.items ++ line_start kind) }
+    ensures named { IfErr result (λ e. e ≡ Allocation) }
 {
     push(text, b"abi: note: ")?;
     push(text, kind.name().as_bytes())
@@ -62,7 +65,8 @@ fn push_start(text: &mut Vec<u8>, kind: NoteKind) -> Result<(), NoMemory>
 
 // Appends a text behind a sign, where there is one.
 fn push_behind(text: &mut Vec<u8>, sign: &str, bytes: &[u8]) -> Result<(), NoMemory>
-    ensures { OnOk result (text.new.items ≡ text.old.items ++ behind sign.now bytes.now) }
+    ensures ok { OnOk result (text.new.items ≡ text.old.items ++ behind sign.now bytes.now) }
+    ensures named { IfErr result (λ e. e ≡ Allocation) }
 {
     if bytes.is_empty() {
         return Ok(());
@@ -73,7 +77,8 @@ fn push_behind(text: &mut Vec<u8>, sign: &str, bytes: &[u8]) -> Result<(), NoMem
 
 // Appends the place of a note, with which its line begins.
 fn push_front(text: &mut Vec<u8>, note: &Note) -> Result<(), NoMemory>
-    ensures { OnOk result (text.new.items ≡ text.old.items ++ line_front note.now) }
+    ensures ok { OnOk result (text.new.items ≡ text.old.items ++ line_front note.now) }
+    ensures named { IfErr result (λ e. e ≡ Allocation) }
 {
     push_start(text, note.kind)?;
     push_behind(text, ": ", note.export.as_slice())?;
@@ -82,7 +87,8 @@ fn push_front(text: &mut Vec<u8>, note: &Note) -> Result<(), NoMemory>
 
 // Appends the old and the new state of a note, and the end of its line.
 fn push_end(text: &mut Vec<u8>, note: &Note) -> Result<(), NoMemory>
-    ensures { OnOk result (text.new.items ≡ text.old.items ++ line_end note.now) }
+    ensures ok { OnOk result (text.new.items ≡ text.old.items ++ line_end note.now) }
+    ensures named { IfErr result (λ e. e ≡ Allocation) }
 {
     let was = note.was.as_slice();
     push_behind(text, ": was ", was)?;
@@ -93,7 +99,8 @@ fn push_end(text: &mut Vec<u8>, note: &Note) -> Result<(), NoMemory>
 // Appends a note as a line.
 #[tactic(auto, unfolding(crate::specs::NoteTexts::note_line))]
 fn push_line(text: &mut Vec<u8>, note: &Note) -> Result<(), NoMemory>
-    ensures { OnOk result (text.new.items ≡ text.old.items ++ note_line note.now) }
+    ensures ok { OnOk result (text.new.items ≡ text.old.items ++ note_line note.now) }
+    ensures named { IfErr result (λ e. e ≡ Allocation) }
 {
     push_front(text, note)?;
     push_end(text, note)
@@ -108,7 +115,8 @@ fn change_sign(was: &[u8]) -> &'static str
 
 // Appends a note as a line, if it is of this kind and comes after fewer than ten of that kind.
 fn push_if(text: &mut Vec<u8>, kind: NoteKind, so_far: usize, note: &Note) -> Result<(), NoMemory>
-    ensures { OnOk result (text.new.items ≡ text.old.items ++ line_if kind so_far note.now) }
+    ensures ok { OnOk result (text.new.items ≡ text.old.items ++ line_if kind so_far note.now) }
+    ensures named { IfErr result (λ e. e ≡ Allocation) }
 {
     if note.kind != kind {
         return Ok(());
@@ -121,7 +129,8 @@ fn push_if(text: &mut Vec<u8>, kind: NoteKind, so_far: usize, note: &Note) -> Re
 
 // Appends how many more there are, in words.
 fn push_rest_words(alloc: Global, text: &mut Vec<u8>, rest: usize) -> Result<(), NoMemory>
-    ensures { OnOk result (text.new.items ≡ text.old.items ++ rest_words rest) }
+    ensures ok { OnOk result (text.new.items ≡ text.old.items ++ rest_words rest) }
+    ensures named { IfErr result (λ e. e ≡ Allocation) }
 {
     let digits = format!(in alloc; "{rest}")?;
     push(text, b": and ")?;
@@ -137,7 +146,8 @@ fn push_rest(
     kind: NoteKind,
     count: usize,
 ) -> Result<(), NoMemory>
-    ensures { OnOk result (text.new.items ≡ text.old.items ++ rest_line kind count) }
+    ensures ok { OnOk result (text.new.items ≡ text.old.items ++ rest_line kind count) }
+    ensures named { IfErr result (λ e. e ≡ Allocation) }
 {
     if count <= MOST {
         return Ok(());
@@ -155,7 +165,8 @@ fn count_of(notes: &[Note], kind: NoteKind) -> usize
 
 // Appends the first notes of a kind.
 fn push_first(text: &mut Vec<u8>, notes: &[Note], kind: NoteKind) -> Result<(), NoMemory>
-    ensures { OnOk result (text.new.items ≡ text.old.items ++ first_lines kind notes.now) }
+    ensures ok { OnOk result (text.new.items ≡ text.old.items ++ first_lines kind notes.now) }
+    ensures named { IfErr result (λ e. e ≡ Allocation) }
 {
     let mut so_far = 0;
     for note in notes {
@@ -184,7 +195,8 @@ fn push_kind(
     notes: &[Note],
     kind: NoteKind,
 ) -> Result<(), NoMemory>
-    ensures { OnOk result (text.new.items ≡ text.old.items ++ kind_text notes.now kind) }
+    ensures ok { OnOk result (text.new.items ≡ text.old.items ++ kind_text notes.now kind) }
+    ensures named { IfErr result (λ e. e ≡ Allocation) }
 {
     push_first(text, notes, kind)?;
     push_rest(alloc, text, kind, count_of(notes, kind))
@@ -192,7 +204,8 @@ fn push_kind(
 
 /// The notes as lines, one kind after another: the first ten of each kind, and how many more there are of it.
 pub fn note_text(alloc: Global, notes: &[Note]) -> Result<Vec<u8>, NoMemory>
-    ensures { IfOk result (λ text. text.items ≡ spec.note_text notes.now) }
+    ensures ok { IfOk result (λ text. text.items ≡ spec.note_text notes.now) }
+    ensures named { IfErr result (λ e. e ≡ Allocation) }
 {
     let kinds = kinds();
     let mut text = Vec::new(alloc);
