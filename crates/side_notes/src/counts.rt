@@ -1,11 +1,12 @@
 // How many exports of an old library are compared, and how many are not.
-ghost use Rattle.std.specs.Prelude.{◌≡◌, map, count_by, is_some, not, false, None, slice_index_or, IfOk};
+ghost use Rattle.std.specs.Prelude.{◌≡◌, map, count_by, is_some, not, false, None, slice_index_or, IfErr, IfOk};
 ghost use Rattle.std.specs.List.{range_with_len};
+ghost use Rattle.abi_base.specs.declared.fault.NoMemory.TheVariants.{Allocation};
 ghost use Rattle.side_notes.specs.Counts.{fate_at, fate_by, fates, is_in};
 ghost use Rattle.side_notes.specs.Counts as spec;
 
 use crate::old_exports::is_compared;
-use abi_base::{List, NoMemory};
+use abi_base::NoMemory;
 use abi_types::Marks;
 use std::alloc::Global;
 
@@ -60,10 +61,11 @@ fn fate_of_export(marks: &Marks, bound: &[Option<usize>], k: usize) -> Fate
 
 // The fates of all exports, in their order.
 #[tactic(auto, using(crate::proofs::CountLemmas::fates_more))]
-fn fates_of(alloc: Global, marks: &Marks, bound: &[Option<usize>]) -> Result<List<Fate>, NoMemory>
-    ensures { IfOk result (λ list. list ≡ fates marks.now.exports bound.now) }
+fn fates_of(alloc: Global, marks: &Marks, bound: &[Option<usize>]) -> Result<Vec<Fate>, NoMemory>
+    ensures ok { IfOk result (λ list. list.items ≡ fates marks.now.exports bound.now) }
+    ensures named { IfErr result (λ e. e ≡ Allocation) }
 {
-    let mut list = List::new(alloc);
+    let mut list = Vec::new(alloc);
     for k in 0..bound.len() {
         list.push(fate_of_export(marks, bound, k))?;
     }
@@ -79,7 +81,8 @@ fn count_of(fates: &[Fate], fate: Fate) -> usize
 
 /// How many old exports have each fate, by what a rule file leaves out and by what each of them binds to.
 pub fn counts_of(alloc: Global, marks: &Marks, bound: &[Option<usize>]) -> Result<Counts, NoMemory>
-    ensures { IfOk result (λ counts. counts ≡ spec.counts_of marks.now.exports bound.now) }
+    ensures ok { IfOk result (λ counts. counts ≡ spec.counts_of marks.now.exports bound.now) }
+    ensures named { IfErr result (λ e. e ≡ Allocation) }
 {
     let fates = fates_of(alloc, marks, bound)?;
     Ok(Counts {
