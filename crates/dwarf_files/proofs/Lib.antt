@@ -2,6 +2,6 @@ mod EntryLemmas
 mod FrontLemmas
 mod ItemLemmas
 mod LawLemmas
+mod ListLemmas
 mod NameLemmas
-mod PickLemmas
 mod StandingLemmas

@@ -1,19 +1,17 @@
--- Entries of directories and files by their numbers.
-use Rattle.std.proofs.Common.{◌≡◌, ℕ, true, List, Option, Some, None, refl, sym, ap, ◌∙◌}
+-- Entries of directories and files by their numbers, and names by a header that is whole.
+use Rattle.std.proofs.Common.{◌≡◌, ℕ, List, Option, Some, None, refl, sym, ap}
 use Rattle.std.specs.Prelude.{slice_get}
+use Rattle.std.proofs.lemmas.Option.{same_Some}
+use Rattle.abi_base.proofs.lemmas.Cases.{option_cases}
 use Rattle.dwarf_files.specs.declared.entries.Entry.{Entry}
-use Rattle.dwarf_files.specs.Names.{PlainHeader, entries_of, directories_of, files_of, place_of, directory_of, file_of}
-use Rattle.dwarf_files.specs.Picks.{picked}
+use Rattle.dwarf_files.specs.Heads.{head_of}
+use Rattle.dwarf_files.specs.Names.{PlainHeader, directories_of, files_of, place_of, directory_of, file_of, name_of, header_by, file_name_of}
+use Rattle.dwarf_files.specs.Programs.{LineProgram, name_in, header_of, listed}
 use Rattle.dwarf_files.specs.Steps.{◌>>=◌}
 
--- the entry that was picked
-abbrev pub found_of : Option (Option Entry × ℕ) → Option Entry
-found_of None = None
-found_of (Some r) = r.0
-
-found_is : (n : ℕ) (table : Option (List Entry × ℕ)) → found_of (picked n table) ≡ (table >>= λ r. slice_get r.0 n)
-found_is n None = refl
-found_is n (Some r) = refl
+listed_at : (place : ℕ) (table : Option (List Entry × ℕ)) (entries : List Entry) → listed table ≡ Some entries → slice_get entries place ≡ (table >>= λ r. slice_get r.0 place)
+listed_at place None entries is = absurd cc
+listed_at place (Some r) entries is = ap (λ (xs : List Entry). slice_get xs place) (sym (same_Some r.0 entries is))
 
 module _ (h : PlainHeader) (n : ℕ) where
   pub no_directory : None ≡ place_of h.version n → None ≡ directory_of h n
@@ -24,18 +22,36 @@ module _ (h : PlainHeader) (n : ℕ) where
   unfolding file_of
   no_file is = rw (sym is) refl
 
-  pub directory_is : (place : ℕ) (r : Option (Option Entry × ℕ)) → Some place ≡ place_of h.version n → r ≡ picked place (directories_of h) → found_of r ≡ directory_of h n
+  pub directory_is : (place : ℕ) (directories : List Entry) → listed (directories_of h) ≡ Some directories → Some place ≡ place_of h.version n → slice_get directories place ≡ directory_of h n
   unfolding directory_of
-  directory_is place r is read = rw (sym is) (ap found_of read ∙ found_is place (directories_of h))
+  directory_is place directories are is = rw (sym is) (listed_at place (directories_of h) directories are)
 
-  files_behind : (some place : ℕ) (r : Option (Option Entry × ℕ)) → r ≡ picked some (directories_of h) → (r >>= λ d. found_of (picked place (entries_of h true d.1))) ≡ found_of (picked place (files_of h))
-  files_behind some place r read = rw read (cases (directories_of h))
-    where
-      cases : (o : Option (List Entry × ℕ)) → (picked some o >>= λ d. found_of (picked place (entries_of h true d.1))) ≡ found_of (picked place (o >>= λ d. entries_of h true d.1))
-      cases None = refl
-      cases (Some d) = refl
-
-  pub file_is : (some place : ℕ) (r : Option (Option Entry × ℕ)) → Some place ≡ place_of h.version n → r ≡ picked some (directories_of h)
-      → (r >>= λ d. found_of (picked place (entries_of h true d.1))) ≡ file_of h n
+  pub file_is : (place : ℕ) (files : List Entry) → listed (files_of h) ≡ Some files → Some place ≡ place_of h.version n → slice_get files place ≡ file_of h n
   unfolding file_of
-  file_is some place r is read = rw (sym is) (files_behind some place r read ∙ found_is place (files_of h))
+  file_is place files are is = rw (sym is) (listed_at place (files_of h) files are)
+
+-- ---- names by a whole header
+
+no_files : (h : PlainHeader) (n : ℕ) → files_of h ≡ None → name_of h n ≡ None
+unfolding name_of file_of
+no_files h n none = cases (place_of h.version n) refl
+  where
+    cases : (o : Option ℕ) → place_of h.version n ≡ o → name_of h n ≡ None
+    cases None is = rw is refl
+    cases (Some place) is = rw (is, none) refl
+
+program_cases : (p : LineProgram) (n : ℕ) (whole : Option PlainHeader) → header_of p ≡ whole → (whole >>= λ h. name_of h n) ≡ name_in p n
+unfolding header_of file_name_of
+program_cases p n whole is =
+    option_cases (head_of p.line p.at)
+    (λ no. rw no (rw no at (ap (λ (o : Option PlainHeader). o >>= λ h. name_of h n) (sym is))))
+    (λ head so. let h : PlainHeader = header_by p.line p.str p.line_str head in
+    option_cases (files_of h)
+    (λ no. let none = no_files h n no in rw (so, none) (rw (so, no) at (ap (λ (o : Option PlainHeader). o >>= λ h. name_of h n) (sym is))))
+    (λ files there. rw so (rw (so, there) at (ap (λ (o : Option PlainHeader). o >>= λ h. name_of h n) (sym is)))))
+
+pub no_name : (p : LineProgram) (n : ℕ) → None ≡ header_of p → None ≡ name_in p n
+no_name p n is = program_cases p n None (sym is)
+
+pub name_is : (p : LineProgram) (n : ℕ) (h : PlainHeader) → Some h ≡ header_of p → name_of h n ≡ name_in p n
+name_is p n h is = program_cases p n (Some h) (sym is)

@@ -7,7 +7,7 @@ use Rattle.abi_base.specs.Runs.{Chain}
 use Rattle.dwarf_files.specs.Lists.{step_of, run_of}
 use Rattle.dwarf_files.specs.Standing.{StandsFrom}
 use Rattle.dwarf_files.specs.Tables.{items}
-use Rattle.dwarf_files.proofs.PickLemmas.{step_falls}
+use Rattle.dwarf_files.proofs.ListLemmas.{step_falls}
 
 pub items_stand : {A : Type 0} (read : ℕ → Option (A × ℕ)) (n at : ℕ) (xs : List A) (end : ℕ) → items read n at ≡ Some (xs, end) → (length xs ≡ n) × StandsFrom read at xs end
 unfolding items

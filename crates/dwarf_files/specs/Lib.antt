@@ -1,8 +1,8 @@
 pub mod Heads
 pub mod Lists
 pub mod Names
-pub mod Picks
 pub mod Plain
+pub mod Programs
 pub mod Standing
 pub mod Steps
 pub mod Tables

@@ -3,12 +3,14 @@
 
 mod entries;
 mod formats;
+mod headers;
 mod heads;
 pub mod laws;
 mod names;
-mod picks;
+mod sections;
 mod tables;
 mod texts;
 
-pub use names::{LineSections, file_name};
+pub use names::FileNames;
+pub use sections::LineSections;
 pub use texts::join;

@@ -1,3 +1,4 @@
 pub mod Coordinates
+pub mod Known
 pub mod Made
 pub mod Plain

@@ -1,16 +1,15 @@
-// The declaration places of entries.
+// The entries of a library, and what locates their files.
 ghost use Rattle.std.specs.Prelude.{◌≡◌, ◌<◌, length, IfOk};
-ghost use Rattle.std.specs.Option.{option_copied, option_map};
-ghost use Rattle.entry_places.specs.Coordinates.{directory_of, entries_in, file_of, if_sound, text_of};
-ghost use Rattle.entry_places.specs.Coordinates as spec;
-ghost use Rattle.entry_places.specs.Plain.{debug_bytes, plain_place};
+ghost use Rattle.std.specs.Option.{option_copied};
+ghost use Rattle.entry_places.specs.Coordinates.{directory_of, entries_in, if_sound, text_of};
+ghost use Rattle.entry_places.specs.Known.{IsOfUnit, program_of};
+ghost use Rattle.entry_places.specs.Plain.{debug_bytes};
 
-use crate::coordinates::coordinates_of;
-use crate::place::DeclarationPlace;
 use crate::roots::{DW_AT_comp_dir, line_program, of_root};
-use abi_base::{NoMemory, Refusal, text_at};
-use dwarf_files::{LineSections, file_name, join};
-use dwarf_forms::{DebugInfoOffset, Sections, Value};
+use crate::unit_files::UnitFiles;
+use abi_base::{Effort, NoMemory, Refusal, text_at};
+use dwarf_files::{FileNames, LineSections};
+use dwarf_forms::{Sections, Value};
 use dwarf_tree::{Tree, read_tree};
 use std::alloc::Global;
 use std::marker::Model;
@@ -36,16 +35,6 @@ impl<'a> Model for EntryPlaces<'a> {
     ghost view = { λ p. record { info = p.info.now; abbrevs = p.abbrevs.now; line = p.lines.line.now; str = p.lines.str.now; line_str = p.lines.line_str.now } };
 
     ghost invariant = { λ p. p.tree ≡ tree_of p.info.now p.abbrevs.now };
-}
-
-// A name in a directory, if that is known.
-fn in_directory(alloc: Global, directory: Option<&[u8]>, name: Vec<u8>) -> Result<Vec<u8>, NoMemory>
-    ensures { IfOk result (λ file. file.items ≡ spec.in_directory (option_copied directory.entry) name.items) }
-{
-    match directory {
-        Some(directory) => join(alloc, directory, name.as_slice()),
-        None => Ok(name),
-    }
 }
 
 impl<'a> EntryPlaces<'a> {
@@ -105,43 +94,26 @@ impl<'a> EntryPlaces<'a> {
         }
     }
 
-    // The file with this number in a unit's line program.
-    #[tactic(auto, unfolding(crate::specs::Coordinates::file_of))]
-    fn file(&self, alloc: Global, unit: usize, number: u64) -> Result<Option<Vec<u8>>, NoMemory>
+    // What the root of a unit says of files.
+    pub(crate) fn unit_files(&self, unit: usize) -> UnitFiles<'a>
         requires { unit < length (entries_in self.now).units }
-        ensures { IfOk result (λ file. option_map (λ f. f.items) file ≡ file_of self.now (entries_in self.now) unit number) }
+        ensures { IsOfUnit self.now unit result }
     {
-        let Some(program) = line_program(&self.tree, unit) else {
-            return Ok(None);
-        };
-        match file_name(alloc, &self.lines, program, number)? {
-            Some(name) => Ok(Some(in_directory(alloc, self.directory(unit), name)?)),
-            None => Ok(None),
+        UnitFiles {
+            program: line_program(&self.tree, unit),
+            directory: self.directory(unit),
         }
     }
 
-    /// The declaration place of the entry at an offset (DWARF 5, section 2.14 "Declaration Coordinates"; DWARF 4, the same
-    /// section). None exactly where no entry begins there, the entry has no file or no line, its unit has no line program, or that
-    /// has no name for the file (see `dwarf_files::file_name`).
-    ///
-    /// A relative name is prefixed with the directory in which the unit was compiled, if the debug information gives it.
-    #[tactic(auto, unfolding(crate::specs::Coordinates::place_of))]
-    pub fn place_of(
+    // The names of the files of a line program.
+    pub(crate) fn names(
         &self,
         alloc: Global,
-        offset: DebugInfoOffset,
-    ) -> Result<Option<DeclarationPlace>, NoMemory>
-        ensures { IfOk result (λ place. option_map plain_place place ≡ spec.place_of self.now offset) }
+        effort: &mut Effort,
+        program: u64,
+    ) -> Result<FileNames<'a>, NoMemory>
+        ensures { IfOk result (λ names. names ≡ program_of self.now program) }
     {
-        let Some(said) = coordinates_of(&self.tree, offset) else {
-            return Ok(None);
-        };
-        match self.file(alloc, said.unit, said.file)? {
-            Some(file) => Ok(Some(DeclarationPlace {
-                file,
-                line: said.line,
-            })),
-            None => Ok(None),
-        }
+        FileNames::read(alloc, effort, &self.lines, program)
     }
 }
