@@ -1,7 +1,8 @@
 -- What was read of units and of line programs, and is kept.
-use Rattle.std.specs.Prelude.{◌≡◌, ℕ, IfSome, nat_eq}
-use Rattle.std.specs.HashMap.{HashMap, get}
+use Rattle.std.specs.Prelude.{◌≡◌, ℕ, IfSome}
+use Rattle.std.specs.BTreeMap.{BTreeMap, get}
 use Rattle.std.specs.Option.{option_copied}
+use Rattle.std.specs.Ordering.{nat_cmp}
 use Rattle.std.specs.declared.rc.Rc.{Rc}
 use Rattle.dwarf_files.specs.Programs.{LineProgram}
 use Rattle.entry_places.specs.Coordinates.{DebugBytes, directory_of, entries_in, line_program_of}
@@ -9,8 +10,8 @@ use Rattle.entry_places.specs.declared.known.Known.{Known}
 use Rattle.entry_places.specs.declared.unit_files.UnitFiles.{UnitFiles}
 
 -- each kept value is the one of its number
-pub record AreAll {V S : Type 0} (Is : ℕ → V → Type 0) (kept : HashMap ℕ V S) : Type 0 where
-  pub each : (n : ℕ) → IfSome (get nat_eq kept n) (Is n)
+pub record AreAll {V : Type 0} (Is : ℕ → V → Type 0) (kept : BTreeMap ℕ V) : Type 0 where
+  pub each : (n : ℕ) → IfSome (get nat_cmp kept n) (Is n)
 
 -- what the root of a unit says
 abbrev pub IsOfUnit : DebugBytes → ℕ → UnitFiles → Type 0

@@ -10,7 +10,7 @@ use crate::unit_files::UnitFiles;
 use abi_base::{Effort, NoMemory};
 use dwarf_files::{FileNames, join};
 use std::alloc::Global;
-use std::collections::HashMap;
+use std::collections::BTreeMap;
 use std::rc::Rc;
 
 // Line programs with more files and directories are not stored together. Few libraries have so many.
@@ -20,9 +20,9 @@ const MOST_KEPT_ENTRIES: usize = 0x10_0000;
 #[derive(Drop)]
 pub(crate) struct Known<'a> {
     // by the numbers of the units
-    pub(crate) units: HashMap<u64, UnitFiles<'a>>,
+    pub(crate) units: BTreeMap<u64, UnitFiles<'a>>,
     // by the offsets in `.debug_line`
-    pub(crate) programs: HashMap<u64, Rc<FileNames<'a>>>,
+    pub(crate) programs: BTreeMap<u64, Rc<FileNames<'a>>>,
     // How many more files and directories the stored line programs may have, if there is more than one.
     pub(crate) room: usize,
     pub(crate) effort: Effort,
@@ -53,8 +53,8 @@ impl<'a> Known<'a> {
         ensures { IsKnown places.now result }
     {
         Known {
-            units: HashMap::new(alloc),
-            programs: HashMap::new(alloc),
+            units: BTreeMap::new(alloc),
+            programs: BTreeMap::new(alloc),
             room: MOST_KEPT_ENTRIES,
             effort,
         }
@@ -94,7 +94,7 @@ impl<'a> Known<'a> {
     {
         let count = names.entry_count();
         if count > self.room {
-            self.programs = HashMap::new(alloc);
+            self.programs = BTreeMap::new(alloc);
             self.room = MOST_KEPT_ENTRIES;
         }
         self.room = self.room.saturating_sub(count);
