@@ -3,15 +3,21 @@ ghost use Rattle.std.specs.Prelude.{◌≤◌, length};
 ghost use Rattle.abi_base.specs.Limits.{input_limit};
 
 use crate::names::{NamedEntries, Typedefs, lacks_tag, type_name, typedefs_in};
-use abi_base::NoMemory;
+use abi_base::{Effort, Limit, NoMemory};
 use dwarf_forms::DebugInfoOffset;
 use elf::file::read_elf;
 use elf::sections::debug_sections;
-use entry_places::EntryPlaces;
+use entry_places::{EntryPlaces, PlaceReader};
 use serde_json::{Map, Value, json, put};
 use std::alloc::Global;
 use std::collections::{HashMap, HashSet};
 use std::str;
+
+// A budget is 64 times a number of bytes (see `Effort`). Source positions may take eight bytes for each byte of the file, and a
+// mebibyte more.
+const FILE_BYTES: usize = 8;
+
+const BYTES_BESIDE: usize = 16_384;
 
 /// The source positions and the names of types, by the offsets of their entries.
 #[derive(Drop)]
@@ -32,10 +38,16 @@ impl TypeFacts {
     }
 }
 
+// The budget for the source positions of a file with these bytes.
+fn place_effort(bytes: &[u8]) -> Effort {
+    let counted = (bytes.len() / FILE_BYTES).saturating_add(BYTES_BESIDE);
+    Effort::for_bytes(Limit::Report, counted)
+}
+
 // The object of a source position, or null.
 fn place_value(
     alloc: Global,
-    places: &EntryPlaces<'_>,
+    places: &mut PlaceReader<'_, '_>,
     offset: DebugInfoOffset,
 ) -> Result<Value, NoMemory> {
     let Some(place) = places.place_of(alloc, offset)? else {
@@ -51,7 +63,7 @@ fn place_value(
 fn put_place(
     alloc: Global,
     map: &mut Map<String, Value>,
-    places: &EntryPlaces<'_>,
+    places: &mut PlaceReader<'_, '_>,
     offset: DebugInfoOffset,
 ) -> Result<(), NoMemory> {
     let place = place_value(alloc, places, offset)?;
@@ -116,7 +128,7 @@ fn wanted_typedefs(
 fn put_all(
     alloc: Global,
     facts: &mut TypeFacts,
-    places: &EntryPlaces<'_>,
+    places: &mut PlaceReader<'_, '_>,
     entries: &NamedEntries<'_, '_>,
     offsets: &[DebugInfoOffset],
 ) -> Result<(), NoMemory> {
@@ -152,6 +164,7 @@ pub(crate) fn type_facts(
     };
     let tree = places.tree();
     let entries = NamedEntries { tree, sections };
-    put_all(alloc, &mut facts, &places, &entries, &offsets)?;
+    let mut reader = PlaceReader::new(alloc, place_effort(bytes), &places);
+    put_all(alloc, &mut facts, &mut reader, &entries, &offsets)?;
     Ok(facts)
 }

@@ -2,9 +2,9 @@
 ghost use Rattle.std.specs.Prelude.{◌≤◌, length};
 ghost use Rattle.abi_base.specs.Limits.{input_limit};
 
-use abi_base::NoMemory;
+use abi_base::{Effort, Limit, NoMemory};
 use dwarf_forms::{DebugInfoOffset, Sections};
-use entry_places::{DeclarationPlace, EntryPlaces};
+use entry_places::{DeclarationPlace, EntryPlaces, PlaceReader};
 use std::alloc::Global;
 use std::process::Abort;
 use std::test::Fail;
@@ -43,6 +43,9 @@ const PLACES_5: &str = "\
 20|/b/a.c|27
 23|/b/inc/a.h|5
 ";
+
+// A budget for this many bytes is enough for the places of each unit.
+const BYTES: usize = 64;
 
 // Sections with these entries.
 fn sections(info: &[u8]) -> Sections<'_>
@@ -83,12 +86,13 @@ fn expect_place(rt: &impl Abort, place: Option<&DeclarationPlace>, wanted: &str)
 fn check_places(
     rt: &impl Abort,
     alloc: Global,
-    places: &EntryPlaces,
+    places: &EntryPlaces<'_>,
     rows: &str,
 ) -> Result<(), NoMemory> {
+    let mut reader = PlaceReader::new(alloc, Effort::for_bytes(Limit::Report, BYTES), places);
     for row in rows.lines() {
         let (offset, wanted) = cut(row);
-        let place = places.place_of(alloc, DebugInfoOffset::new(number(offset)))?;
+        let place = reader.place_of(alloc, DebugInfoOffset::new(number(offset)))?;
         expect_place(rt, place.as_ref(), wanted);
     }
     Ok(())
