@@ -18,9 +18,9 @@ ghost use Rattle.side_notes.specs.Affected as spec;
 ghost use Rattle.side_notes.specs.NoteTexts.{behind};
 
 use crate::making::bytes_of;
-use crate::old_exports::export_at;
 use abi_base::{Effort, Limit, List, NoMemory, taken};
 use abi_types::{Index, Library, NewIx, OldIx};
+use cert_check::library_exports::find_at;
 use leading_exports::{Arrow, Walk, arrows_of, exports_to, numbers_of};
 use pair_compare::laws::typed_pairs_can_be_explored;
 use pair_compare::reports::laws::paths_end_where_they_lead;
@@ -153,7 +153,7 @@ const NOTE: usize = 128;
 fn name_len_at(library: &Library<OldIx>, export: u32) -> usize
     ensures { result ≡ spec.name_len_at library.now export }
 {
-    match export_at(library, export as usize) {
+    match find_at(library, export as usize) {
         None => 0,
         Some(export) => export.name.len(),
     }

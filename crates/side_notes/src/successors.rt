@@ -11,6 +11,7 @@ use crate::making::{label_of, note_on};
 use crate::stems::stem;
 use abi_base::{List, NoMemory};
 use abi_types::{Export, Library, NewIx, OldIx};
+use cert_check::library_exports::find_at;
 use std::alloc::Global;
 use std::collections::BTreeMap;
 use type_notes::{Note, NoteKind};
@@ -104,13 +105,6 @@ fn place_of(related: &Related, export: &Export) -> Option<usize>
     }
 }
 
-// The new export at a place, where there is one.
-fn new_export_at<'x, 'n>(library: &'x Library<'n, NewIx>, place: usize) -> Option<&'x Export<'n>>
-    ensures { MatchOption result (slice_get library.now.exports place ≡ None) (λ export. slice_get library.now.exports place ≡ Some (plain_export export.now)) }
-{
-    library.exports().get(place)
-}
-
 // The likely successor of an old export that binds to none.
 fn successor_of<'x, 'n>(related: &Related<'x, '_, 'n>, export: &Export) -> Option<&'x Export<'n>>
     requires { AreKin related.now.old.now.exports related.now.new.now.exports related.now.kin.now }
@@ -118,7 +112,7 @@ fn successor_of<'x, 'n>(related: &Related<'x, '_, 'n>, export: &Export) -> Optio
 {
     match place_of(related, export) {
         None => None,
-        Some(place) => new_export_at(related.new, place),
+        Some(place) => find_at(related.new, place),
     }
 }
 
