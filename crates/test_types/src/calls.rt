@@ -1,4 +1,5 @@
 // What no contract states: calls succeed with enough memory, and the places of results and arguments in calls of small functions.
+use crate::rows::expect;
 use abi_base::{List, NoMemory};
 use abi_types::{Call, Graph, Group, Index, Kind, Node, OldIx, Part, Place, Slot};
 use psabi::{alignments, call_shape, call_shapes, classes, size};
@@ -162,6 +163,15 @@ nil|NoClass NoClass
 doubles|Memory Memory
 ";
 
+// The classes of the first two eightbytes of a type.
+fn classes_text(alloc: Global, graph: &Graph<OldIx>, number: usize) -> Result<String, NoMemory> {
+    if number >= graph.len() {
+        return Ok(String::from_str(alloc, "no type")?);
+    }
+    let [first, second, _, _, _, _, _, _] = classes(graph, OldIx::of(number));
+    Ok(format!(in alloc; "{first:?} {second:?}")?)
+}
+
 fn check_classes(
     rt: &impl Abort,
     alloc: Global,
@@ -169,11 +179,8 @@ fn check_classes(
     row: &str,
 ) -> Result<(), NoMemory> {
     let (name, wanted) = cut(row, '|');
-    let number = number_of(name);
-    assert!(rt; number < graph.len());
-    let [first, second, _, _, _, _, _, _] = classes(graph, OldIx::of(number));
-    let told = format!(in alloc; "{first:?} {second:?}")?;
-    assert_eq!(rt; told.as_str(), wanted, "{name}");
+    let told = classes_text(alloc, graph, number_of(name))?;
+    expect(rt, told, wanted, row);
     Ok(())
 }
 
@@ -185,24 +192,41 @@ fn check_all_classes(rt: &impl Abort, alloc: Global, graph: &Graph<OldIx>) -> Re
     Ok(())
 }
 
+// The graph of the types alone.
+fn graph_of_types(rt: &impl Abort, alloc: Global) -> Result<Graph<'static, OldIx>, NoMemory> {
+    graph_of(rt, alloc, types(alloc)?)
+}
+
 #[test]
 fn classes_of_small_objects(rt: HostRuntime) -> Result<(), Fail> {
-    let graph = graph_of(&rt, rt.alloc(), types(rt.alloc())?)?;
+    let graph = graph_of_types(&rt, rt.alloc())?;
     check_all_classes(&rt, rt.alloc(), &graph)?;
+    Ok(())
+}
+
+// The alignment of the type with a number.
+fn alignment(alloc: Global, graph: &Graph<OldIx>, number: usize) -> Result<Option<u64>, NoMemory> {
+    let aligns = alignments(alloc, graph)?;
+    Ok(aligns.as_slice().get(number).copied())
+}
+
+fn check_size_and_alignment(
+    rt: &impl Abort,
+    alloc: Global,
+    graph: &Graph<OldIx>,
+) -> Result<(), NoMemory> {
+    let across = number_of("across");
+    assert!(rt; across < graph.len());
+    assert_eq!(rt; size(graph, OldIx::of(across)), 12);
+    let align = alignment(alloc, graph, number_of("mixed"))?;
+    assert_eq!(rt; align, Some(16));
     Ok(())
 }
 
 #[test]
 fn a_size_and_an_alignment(rt: HostRuntime) -> Result<(), Fail> {
-    let graph = graph_of(&rt, rt.alloc(), types(rt.alloc())?)?;
-    let across = number_of("across");
-    assert!(rt; across < graph.len());
-    assert_eq!(rt; size(&graph, OldIx::of(across)), 12);
-    let aligns = alignments(rt.alloc(), &graph)?;
-    assert_eq!(rt;
-        aligns.as_slice().get(number_of("mixed")).copied(),
-        Some(16)
-    );
+    let graph = graph_of_types(&rt, rt.alloc())?;
+    check_size_and_alignment(&rt, rt.alloc(), &graph)?;
     Ok(())
 }
 
@@ -250,20 +274,34 @@ fn places_of(alloc: Global, call: &Call) -> Result<String, NoMemory> {
     Ok(text)
 }
 
-// The graph with a function that has this result and these parameters.
+fn numbers_of(alloc: Global, names: &str) -> Result<Vec<usize>, NoMemory> {
+    let mut numbers = Vec::new(alloc);
+    for name in names.split_whitespace() {
+        numbers.push(number_of(name))?;
+    }
+    Ok(numbers)
+}
+
+// The types and a function that has this result and these parameters.
+fn types_with<'a>(
+    alloc: Global,
+    outcome: usize,
+    params: &[usize],
+) -> Result<List<Node<'a, OldIx>>, NoMemory> {
+    let mut nodes = types(alloc)?;
+    nodes.push(function(alloc, FUNCTION as u64, 17, outcome, params)?)?;
+    Ok(nodes)
+}
+
+// Their graph.
 fn graph_with(
     rt: &impl Abort,
     alloc: Global,
     outcome: &str,
     params: &str,
 ) -> Result<Graph<'static, OldIx>, NoMemory> {
-    let mut numbers = Vec::new(alloc);
-    for name in params.split_whitespace() {
-        numbers.push(number_of(name))?;
-    }
-    let mut nodes = types(alloc)?;
-    let entry = FUNCTION as u64;
-    nodes.push(function(alloc, entry, 17, number_of(outcome), &numbers)?)?;
+    let numbers = numbers_of(alloc, params)?;
+    let nodes = types_with(alloc, number_of(outcome), numbers.as_slice())?;
     graph_of(rt, alloc, nodes)
 }
 
@@ -287,12 +325,17 @@ fn places_in(rt: &impl Abort, alloc: Global, graph: &Graph<OldIx>) -> Result<Str
     places_of(alloc, &call)
 }
 
-fn check_call(rt: &impl Abort, alloc: Global, row: &str) -> Result<(), NoMemory> {
-    let (names, wanted) = cut(row, '|');
+// The places in a call of a function with this result and these parameters.
+fn places_for(rt: &impl Abort, alloc: Global, names: &str) -> Result<String, NoMemory> {
     let (outcome, params) = cut(names, ' ');
     let graph = graph_with(rt, alloc, outcome, params)?;
-    let told = places_in(rt, alloc, &graph)?;
-    assert_eq!(rt; told.as_str(), wanted, "{names}");
+    places_in(rt, alloc, &graph)
+}
+
+fn check_call(rt: &impl Abort, alloc: Global, row: &str) -> Result<(), NoMemory> {
+    let (names, wanted) = cut(row, '|');
+    let told = places_for(rt, alloc, names)?;
+    expect(rt, told, wanted, row);
     Ok(())
 }
 
@@ -304,7 +347,14 @@ fn places_of_small_calls(rt: HostRuntime) -> Result<(), Fail> {
     Ok(())
 }
 
-// Expects the places of the result and the arguments in a call of the type with a number.
+// The places of the result and the arguments in a call of the type with a number.
+fn places_at(alloc: Global, calls: &[Call], number: usize) -> Result<String, NoMemory> {
+    match calls.get(number) {
+        None => Ok(String::from_str(alloc, "no call")?),
+        Some(call) => places_of(alloc, call),
+    }
+}
+
 fn expect_places(
     rt: &impl Abort,
     alloc: Global,
@@ -312,24 +362,22 @@ fn expect_places(
     number: usize,
     wanted: &str,
 ) -> Result<(), NoMemory> {
-    match calls.get(number) {
-        None => panic!(rt; "no call"),
-        Some(call) => {
-            let told = places_of(alloc, call)?;
-            assert_eq!(rt; told.as_str(), wanted);
-        }
-    }
+    let told = places_at(alloc, calls, number)?;
+    expect(rt, told, wanted, "a call");
     Ok(())
 }
 
 // Checks the calls of all types. An `int` has no places.
-fn check_calls(rt: &impl Abort, alloc: Global, graph: &Graph<OldIx>) -> Result<(), NoMemory> {
-    let calls = call_shapes(alloc, graph)?;
-    let calls = calls.as_slice();
-    assert_eq!(rt; calls.len(), graph.len());
+fn check_places(rt: &impl Abort, alloc: Global, calls: &[Call]) -> Result<(), NoMemory> {
     let wanted = "none| +rdi+rsi +rdx+rcx +r8+r9 stack+0:16 stack+16:8";
     expect_places(rt, alloc, calls, FUNCTION, wanted)?;
     expect_places(rt, alloc, calls, number_of("int"), "none|")
+}
+
+fn check_calls(rt: &impl Abort, alloc: Global, graph: &Graph<OldIx>) -> Result<(), NoMemory> {
+    let calls = call_shapes(alloc, graph)?;
+    assert_eq!(rt; calls.as_slice().len(), graph.len());
+    check_places(rt, alloc, calls.as_slice())
 }
 
 #[test]

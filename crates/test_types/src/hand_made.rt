@@ -1,14 +1,15 @@
 // What no contract states: calls succeed with enough memory, and the run-time tests recognize well-formed nodes and libraries.
+use crate::rows::expect;
 use abi_base::{List, NoMemory};
 use abi_types::{
-    Call, CallShape, Export, Graph, Index, Kind, Library, NewIx, Node, OldIx, Place, SymbolKind,
+    Call, CallShape, Export, Graph, Index, Library, NewIx, Node, OldIx, Place, SymbolKind,
 };
 use library_read::copy::copied;
 use std::alloc::Global;
 use std::fmt::Write;
 use std::process::Abort;
 use std::test::Fail;
-use test_graphs::{function, graph, is_library, member, node, pointer, structure, void};
+use test_graphs::{function, graph, is_library, member, pointer, scalar, structure, void};
 
 // A structure that holds a pointer to it.
 fn holder<'a, Ix: Index>(alloc: Global) -> Result<Node<'a, Ix>, NoMemory> {
@@ -94,11 +95,22 @@ fn found<Ix: Index>(alloc: Global, graph: &Graph<Ix>, entries: &str) -> Result<S
     Ok(text)
 }
 
+fn expect_found<Ix: Index>(
+    rt: &impl Abort,
+    alloc: Global,
+    graph: &Graph<Ix>,
+    entries: &str,
+    wanted: &str,
+) -> Result<(), NoMemory> {
+    let told = found(alloc, graph, entries)?;
+    expect(rt, told, wanted, entries);
+    Ok(())
+}
+
 #[test]
 fn types_are_found_by_their_entries(rt: HostRuntime) -> Result<(), Fail> {
     let graph = small_graph(&rt, rt.alloc())?;
-    let told = found(rt.alloc(), &graph, "0 20 30 35")?;
-    assert_eq!(rt; told.as_str(), "0 2 1 - ");
+    expect_found(&rt, rt.alloc(), &graph, "0 20 30 35", "0 2 1 - ")?;
     Ok(())
 }
 
@@ -110,13 +122,27 @@ fn exports(alloc: Global) -> Result<List<Export<'static>>, NoMemory> {
     Ok(exports)
 }
 
+fn is_library_with(alloc: Global, graph: &Graph<OldIx>) -> Result<bool, NoMemory> {
+    let exports = exports(alloc)?;
+    Ok(is_library(exports.as_slice(), graph))
+}
+
+fn expect_no_library(rt: &impl Abort, alloc: Global) -> Result<(), NoMemory> {
+    let without = small_graph(rt, alloc)?;
+    assert!(rt; !is_library_with(alloc, &without)?);
+    Ok(())
+}
+
+fn expect_library(rt: &impl Abort, alloc: Global) -> Result<(), NoMemory> {
+    let with = graph_with_calls(rt, alloc)?;
+    assert!(rt; is_library_with(alloc, &with)?);
+    Ok(())
+}
+
 #[test]
 fn a_library_has_places_of_calls(rt: HostRuntime) -> Result<(), Fail> {
-    let exports = exports(rt.alloc())?;
-    let without = small_graph(&rt, rt.alloc())?;
-    assert!(rt; !is_library(exports.as_slice(), &without));
-    let with = graph_with_calls(&rt, rt.alloc())?;
-    assert!(rt; is_library(exports.as_slice(), &with));
+    expect_no_library(&rt, rt.alloc())?;
+    expect_library(&rt, rt.alloc())?;
     Ok(())
 }
 
@@ -138,12 +164,23 @@ fn named<Ix: Index>(alloc: Global, library: &Library<Ix>, names: &str) -> Result
     Ok(text)
 }
 
+fn expect_named<Ix: Index>(
+    rt: &impl Abort,
+    alloc: Global,
+    library: &Library<Ix>,
+    names: &str,
+    wanted: &str,
+) -> Result<(), NoMemory> {
+    let told = named(alloc, library, names)?;
+    expect(rt, told, wanted, names);
+    Ok(())
+}
+
 // The last name is empty.
 #[test]
 fn exports_are_found_by_their_names(rt: HostRuntime) -> Result<(), Fail> {
     let library = library(&rt, rt.alloc())?;
-    let told = named(rt.alloc(), &library, "f g ")?;
-    assert_eq!(rt; told.as_str(), "f1 g0 g2 ");
+    expect_named(&rt, rt.alloc(), &library, "f g ", "f1 g0 g2 ")?;
     Ok(())
 }
 
@@ -151,26 +188,37 @@ fn expect_copy(rt: &impl Abort, alloc: Global, copy: &Library<NewIx>) -> Result<
     assert!(rt; copy.file() == b"abc".as_slice());
     assert!(rt; copy.soname().is_none());
     assert_eq!(rt; copy.graph().len(), 4);
-    let told = named(alloc, copy, "g")?;
-    assert_eq!(rt; told.as_str(), "g0 g2 ");
-    let told = found(alloc, copy.graph(), "20")?;
-    assert_eq!(rt; told.as_str(), "2 ");
-    Ok(())
+    expect_named(rt, alloc, copy, "g", "g0 g2 ")?;
+    expect_found(rt, alloc, copy.graph(), "20", "2 ")
+}
+
+fn check_copy(rt: &impl Abort, alloc: Global, library: &Library<OldIx>) -> Result<(), NoMemory> {
+    let copy: Library<NewIx> = copied(alloc, library)?;
+    expect_copy(rt, alloc, &copy)
 }
 
 #[test]
 fn a_library_is_copied(rt: HostRuntime) -> Result<(), Fail> {
     let library = library(&rt, rt.alloc())?;
-    let copy: Library<NewIx> = copied(rt.alloc(), &library)?;
-    expect_copy(&rt, rt.alloc(), &copy)?;
+    check_copy(&rt, rt.alloc(), &library)?;
     Ok(())
+}
+
+// Nodes two of which have the entry 20.
+fn doubled_nodes<'a>(alloc: Global) -> Result<List<Node<'a, OldIx>>, NoMemory> {
+    let mut nodes = small_nodes(alloc)?;
+    nodes.push(scalar(alloc, 20, 4)?)?;
+    Ok(nodes)
+}
+
+fn is_graph(alloc: Global, nodes: List<Node<OldIx>>) -> Result<bool, NoMemory> {
+    let graph = graph(alloc, nodes)?;
+    Ok(graph.is_some())
 }
 
 #[test]
 fn two_nodes_of_one_entry_are_no_graph(rt: HostRuntime) -> Result<(), Fail> {
-    let alloc = rt.alloc();
-    let mut nodes = small_nodes::<OldIx>(alloc)?;
-    nodes.push(node(alloc, 20, 0, Kind::Scalar, 4, Vec::new(alloc))?)?;
-    assert!(rt; graph(alloc, nodes)?.is_none());
+    let nodes = doubled_nodes(rt.alloc())?;
+    assert!(rt; !is_graph(rt.alloc(), nodes)?);
     Ok(())
 }

@@ -12,6 +12,8 @@ mod parts;
 #[cfg(test)]
 mod reached;
 #[cfg(test)]
+mod rows;
+#[cfg(test)]
 mod sections;
 #[cfg(test)]
 mod views;

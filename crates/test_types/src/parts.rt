@@ -2,6 +2,7 @@
 use abi_base::NoMemory;
 use abi_types::{Index, NewIx, OldIx, Part, Parts};
 use std::alloc::Global;
+use std::process::Abort;
 use std::test::Fail;
 
 // Members with two alternating names.
@@ -23,19 +24,33 @@ fn members<'a, Ix: Index>(
     Ok(members)
 }
 
+// Checks the part at a position: half as many of its name come before it.
+fn check_part(rt: &impl Abort, parts: &Parts<OldIx>, i: usize) {
+    assert!(rt; i < parts.len());
+    assert_eq!(rt; parts.like_before(i), i / 2);
+    assert_eq!(rt; parts.nth_like(parts.at(i), i / 2), Some(i));
+    assert_eq!(rt; parts.nth_like(parts.at(i), parts.len()), None);
+}
+
+fn check_parts(rt: &impl Abort, parts: &Parts<OldIx>) {
+    for i in 0..parts.len() {
+        check_part(rt, parts, i);
+    }
+    let target = Part::Target { to: NewIx::of(0) };
+    assert_eq!(rt; parts.nth_like(&target, 0), None);
+}
+
+fn check_count(rt: &impl Abort, alloc: Global, count: usize) -> Result<(), NoMemory> {
+    let parts = Parts::of(alloc, members::<OldIx>(alloc, count, b"a", b"b")?)?;
+    assert_eq!(rt; parts.len(), count);
+    check_parts(rt, &parts);
+    Ok(())
+}
+
 #[test]
 fn parts_of_one_name_are_found(rt: HostRuntime) -> Result<(), Fail> {
-    let alloc = rt.alloc();
     for count in [1, 16, 17, 10_000] {
-        let parts = Parts::of(alloc, members::<OldIx>(alloc, count, b"a", b"b")?)?;
-        assert_eq!(rt; parts.len(), count);
-        for i in 0..parts.len() {
-            assert_eq!(rt; parts.like_before(i), i / 2);
-            assert_eq!(rt; parts.nth_like(parts.at(i), i / 2), Some(i));
-            assert_eq!(rt; parts.nth_like(parts.at(i), count), None);
-        }
-        let target = Part::Target { to: NewIx::of(0) };
-        assert_eq!(rt; parts.nth_like(&target, 0), None);
+        check_count(&rt, rt.alloc(), count)?;
     }
     Ok(())
 }

@@ -1,6 +1,7 @@
 // The entries that types reach, and the facts about them.
 ghost use Rattle.std.specs.Prelude.{◌<◌, length};
 
+use crate::rows::expect;
 use crate::sections::dwarf;
 use abi_base::{FaultKind, NoMemory, Refusal};
 use dwarf_entries::Dwarf;
@@ -73,13 +74,21 @@ fn facts_of(alloc: Global, dwarf: &Dwarf, e: EntryNumber) -> Result<Option<Facts
     }
 }
 
+fn offsets_from(alloc: Global, dwarf: &Dwarf, offset: u64) -> Result<Vec<u64>, NoMemory> {
+    let found = listed(alloc, dwarf, offset)?;
+    offsets(alloc, dwarf, &found)
+}
+
+fn check_offsets(rt: &impl Abort, alloc: Global, dwarf: &Dwarf) -> Result<(), NoMemory> {
+    let offsets = offsets_from(alloc, dwarf, 22)?;
+    assert_eq!(rt; offsets.as_slice(), [15, 22].as_slice());
+    Ok(())
+}
+
 #[test]
 fn a_function_leads_to_its_type(rt: HostRuntime) -> Result<(), Fail> {
-    let alloc = rt.alloc();
-    let dwarf = dwarf(alloc, ABBREVS, FUNCTION)?;
-    let found = listed(alloc, &dwarf, 22)?;
-    let offsets = offsets(alloc, &dwarf, &found)?;
-    assert_eq!(rt; offsets.as_slice(), [15, 22].as_slice());
+    let dwarf = dwarf(rt.alloc(), ABBREVS, FUNCTION)?;
+    check_offsets(&rt, rt.alloc(), &dwarf)?;
     Ok(())
 }
 
@@ -136,7 +145,7 @@ fn told_at(alloc: Global, dwarf: &Dwarf, offset: u64) -> Result<String, Refusal>
 fn check_facts(rt: &impl Abort, alloc: Global, dwarf: &Dwarf, row: &str) -> Result<(), Refusal> {
     let (offset, wanted) = row.split_once('|').unwrap_or((row, ""));
     let told = told_at(alloc, dwarf, offset.parse().unwrap_or(0))?;
-    assert_eq!(rt; told.as_str(), wanted, "at {offset}");
+    expect(rt, told, wanted, row);
     Ok(())
 }
 
@@ -167,10 +176,15 @@ fn span_at(alloc: Global, dwarf: &Dwarf, offset: u64) -> Result<Option<Span>, Re
     }
 }
 
+fn check_span(rt: &impl Abort, alloc: Global, dwarf: &Dwarf) -> Result<(), Refusal> {
+    let span = span_at(alloc, dwarf, 22)?;
+    assert_eq!(rt; span, Some(Span { low: 0, high: 3 }));
+    Ok(())
+}
+
 #[test]
 fn a_structure_has_the_span_of_its_bit_fields(rt: HostRuntime) -> Result<(), Fail> {
     let dwarf = dwarf(rt.alloc(), MORE_ABBREVS, TYPES)?;
-    let span = span_at(rt.alloc(), &dwarf, 22)?;
-    assert_eq!(rt; span, Some(Span { low: 0, high: 3 }));
+    check_span(&rt, rt.alloc(), &dwarf)?;
     Ok(())
 }

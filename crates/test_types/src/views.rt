@@ -1,10 +1,12 @@
 // The nodes that types get from their entries: sizes, ranks, labels, parts and members.
+use crate::rows::expect;
 use crate::sections::dwarf;
 use abi_base::{FaultKind, NoMemory, Refusal};
 use abi_types::{Graph, Index, OldIx, Part};
 use dwarf_entries::Dwarf;
 use dwarf_forms::DebugInfoOffset;
 use std::alloc::Global;
+use std::fmt::Write;
 use std::process::Abort;
 use std::test::*;
 use type_graph::{GraphLimits, raw_graph};
@@ -48,18 +50,19 @@ fn node(alloc: Global, graph: &Graph<OldIx>, offset: u64) -> Result<String, NoMe
     Ok(format!(in alloc; "{size} {rank} {labels} {parts}")?)
 }
 
-// The positions of the members of a type, and the entries of their types.
-fn members(alloc: Global, graph: &Graph<OldIx>, offset: u64) -> Result<Vec<(u64, u64)>, NoMemory> {
-    let mut members = Vec::new(alloc);
+// The position of each member of a type, and the entry of its type.
+fn members(alloc: Global, graph: &Graph<OldIx>, offset: u64) -> Result<String, NoMemory> {
+    let mut text = String::new(alloc);
     if let Some(ix) = graph.find(offset) {
         let view = graph.view(ix);
         for k in 0..view.parts_len() {
             if let Part::Member { bit, to, .. } = view.part(k) {
-                members.push((*bit, entry(graph, *to)))?;
+                let entry = entry(graph, *to);
+                write!(text, "{bit}>{entry} ")?;
             }
         }
     }
-    Ok(members)
+    Ok(text)
 }
 
 // The entry of a node; 0 if there is no such node.
@@ -89,27 +92,35 @@ fn check_node(
 ) -> Result<(), NoMemory> {
     let (offset, wanted) = row.split_once('|').unwrap_or((row, ""));
     let told = node(alloc, graph, offset.parse().unwrap_or(0))?;
-    assert_eq!(rt; told.as_str(), wanted, "at {offset}");
+    expect(rt, told, wanted, row);
+    Ok(())
+}
+
+fn check_nodes(rt: &impl Abort, alloc: Global, graph: &Graph<OldIx>) -> Result<(), NoMemory> {
+    assert_eq!(rt; graph.len(), 6);
+    for row in NODES.lines() {
+        check_node(rt, alloc, graph, row)?;
+    }
+    Ok(())
+}
+
+fn check_members(rt: &impl Abort, alloc: Global, graph: &Graph<OldIx>) -> Result<(), NoMemory> {
+    let told = members(alloc, graph, 57)?;
+    expect(rt, told, "0>15 32>15 ", "members");
+    Ok(())
+}
+
+fn check_graph(rt: &impl Abort, alloc: Global, dwarf: &Dwarf) -> Result<(), Refusal> {
+    let graph = graph(alloc, dwarf, 57)?;
+    check_nodes(rt, alloc, &graph)?;
+    check_members(rt, alloc, &graph)?;
     Ok(())
 }
 
 #[test]
 fn a_graph_of_types(rt: HostRuntime) -> Result<(), Fail> {
     let dwarf = dwarf(rt.alloc(), ABBREVS, TYPES)?;
-    let graph = graph(rt.alloc(), &dwarf, 57)?;
-    assert_eq!(rt; graph.len(), 6);
-    for row in NODES.lines() {
-        check_node(&rt, rt.alloc(), &graph, row)?;
-    }
-    Ok(())
-}
-
-#[test]
-fn members_lie_where_they_are_said_to(rt: HostRuntime) -> Result<(), Fail> {
-    let dwarf = dwarf(rt.alloc(), ABBREVS, TYPES)?;
-    let graph = graph(rt.alloc(), &dwarf, 57)?;
-    let members = members(rt.alloc(), &graph, 57)?;
-    assert_eq!(rt; members.as_slice(), [(0, 15), (32, 15)].as_slice());
+    check_graph(&rt, rt.alloc(), &dwarf)?;
     Ok(())
 }
 
