@@ -1,7 +1,10 @@
 // What no contract states: tables as bytes, worked by hand from the standard, and that a call returns them.
-use abi_base::{Fault, FaultKind, Refusal};
+use crate::rows::{byte, changed, cut, expect, number, refusal_text};
+use abi_base::{NoMemory, Refusal};
 use dwarf_forms::DebugAbbrevOffset;
-use dwarf_forms::abbreviations::{AbbreviationCode, Spec, table};
+use dwarf_forms::abbreviations::{AbbreviationCode, Spec, Table, table};
+use std::alloc::Global;
+use std::process::Abort;
 use std::test::Fail;
 
 // The abbreviations of a unit, of a base type, and of a function.
@@ -19,42 +22,71 @@ const SCATTERED: &[u8] = &[
 // A pair of attribute 0x3a, DW_AT_decl_file, and form 0x21, DW_FORM_implicit_const, whose value, -2, follows its form.
 const IMPLICIT: &[u8] = &[0x01, 0x34, 0x00, 0x3a, 0x21, 0x7e, 0x00, 0x00, 0x00];
 
+// The columns of a line: a table | the offset of its first abbreviation | a code | the hexadecimal tag of the abbreviation with this
+// code, whether it has children, and its number of attributes.
+const FOUND: &str = "\
+table|0|1|11 true 1
+table|0|2|24 false 3
+table|0|3|2e false 3
+table|0|0|none
+table|0|4|none
+table|0|8|none
+table|7|2|24 false 3
+table|7|3|2e false 3
+table|7|0|none
+table|7|4|none
+table|7|8|none
+scattered|0|7|24 false 0
+scattered|0|3|f false 0
+scattered|0|1|11 true 0
+scattered|0|18446744073709551615|2e false 0
+scattered|0|0|none
+scattered|0|4|none
+scattered|0|8|none
+implicit|0|1|34 false 1
+implicit|0|0|none
+implicit|0|4|none
+implicit|0|8|none
+";
+
+fn bytes_named(name: &str) -> &'static [u8] {
+    match name {
+        "table" => TABLE,
+        "scattered" => SCATTERED,
+        _ => IMPLICIT,
+    }
+}
+
+// What the table has under a code.
+fn told(alloc: Global, found: &Table, code: u64) -> Result<String, NoMemory> {
+    match found.find(AbbreviationCode::new(code)) {
+        None => Ok(String::from_str(alloc, "none")?),
+        Some(made) => {
+            let (tag, children) = (made.tag, made.children);
+            let attributes = made.specs.as_slice().len();
+            Ok(format!(in alloc; "{tag:x} {children} {attributes}")?)
+        }
+    }
+}
+
+fn told_of(alloc: Global, bytes: &[u8], at: u64, code: u64) -> Result<String, Refusal> {
+    let found = table(alloc, bytes, DebugAbbrevOffset::new(at))?;
+    Ok(told(alloc, &found, code)?)
+}
+
+fn check_found(rt: &impl Abort, alloc: Global, row: &str) -> Result<(), Refusal> {
+    let (name, cells) = cut(row);
+    let (at, cells) = cut(cells);
+    let (code, wanted) = cut(cells);
+    let told = told_of(alloc, bytes_named(name), number(at), number(code))?;
+    expect(rt, told, wanted, row);
+    Ok(())
+}
+
 #[test]
 fn abbreviations_are_found(rt: HostRuntime) -> Result<(), Fail> {
-    for (bytes, at, wanted) in [
-        (
-            TABLE,
-            0,
-            &[(1, 0x11, true, 1), (2, 0x24, false, 3), (3, 0x2e, false, 3)][..],
-        ),
-        (TABLE, 7, &[(2, 0x24, false, 3), (3, 0x2e, false, 3)][..]),
-        (
-            SCATTERED,
-            0,
-            &[
-                (7, 0x24, false, 0),
-                (3, 0x0f, false, 0),
-                (1, 0x11, true, 0),
-                (u64::MAX, 0x2e, false, 0),
-            ][..],
-        ),
-        (IMPLICIT, 0, &[(1, 0x34, false, 1)][..]),
-    ] {
-        let found = table(rt.alloc(), bytes, DebugAbbrevOffset::new(at))?;
-        for (code, tag, children, pairs) in wanted.iter().copied() {
-            let made = found
-                .find(AbbreviationCode::new(code))
-                .expect(&rt, "a code of the table");
-            assert_eq!(rt; made.tag, tag, "at {code}");
-            assert_eq!(rt; made.children, children, "at {code}");
-            assert_eq!(rt; made.specs.as_slice().len(), pairs, "at {code}");
-        }
-        for code in [0, 4, 8] {
-            assert!(rt;
-                found.find(AbbreviationCode::new(code)).is_none(),
-                "at {code}"
-            );
-        }
+    for row in FOUND.lines() {
+        check_found(&rt, rt.alloc(), row)?;
     }
     Ok(())
 }
@@ -74,33 +106,51 @@ fn a_constant_follows_its_form(rt: HostRuntime) -> Result<(), Fail> {
     Ok(())
 }
 
+// The columns of a line: what is wrong | the position of a byte of `TABLE` | the hexadecimal byte that is to stand there | the offset
+// of the first abbreviation | the fault.
+const FAULTS: &str = "\
+a children byte that is neither 0 nor 1|2|02|0|Abbrev 0
+a code that an earlier abbreviation has|18|02|0|Abbrev 18
+only one 0 of a pair|13|00|7|Abbrev 7
+no end|29|80|0|Abbrev 29
+no abbreviations|29|00|30|Abbrev 30
+";
+
+// The fault of a table, or nothing if it has none.
+fn fault_of(alloc: Global, bytes: &[u8], at: u64) -> Result<String, NoMemory> {
+    match table(alloc, bytes, DebugAbbrevOffset::new(at)) {
+        Ok(_) => Ok(String::new(alloc)),
+        Err(refusal) => refusal_text(alloc, refusal),
+    }
+}
+
+// The fault of the table with a changed byte.
+fn changed_fault(alloc: Global, place: u64, with: u8, at: u64) -> Result<String, NoMemory> {
+    let bytes = changed(alloc, TABLE, place, with)?;
+    fault_of(alloc, bytes.as_slice(), at)
+}
+
+fn check_fault(rt: &impl Abort, alloc: Global, row: &str) -> Result<(), NoMemory> {
+    let (_, cells) = cut(row);
+    let (place, cells) = cut(cells);
+    let (with, cells) = cut(cells);
+    let (at, wanted) = cut(cells);
+    let told = changed_fault(alloc, number(place), byte(with), number(at))?;
+    expect(rt, told, wanted, row);
+    Ok(())
+}
+
 #[test]
 fn faults_are_at_their_abbreviation(rt: HostRuntime) -> Result<(), Fail> {
-    for (place, byte, at, fault) in [
-        // A children byte that is neither 0 nor 1.
-        (2, 0x02, 0, 0),
-        // A code that an earlier abbreviation has.
-        (18, 0x02, 0, 18),
-        // Only one 0 of a pair.
-        (13, 0x00, 7, 7),
-        // No end.
-        (29, 0x80, 0, 29),
-        (29, 0x00, 30, 30),
-    ] {
-        let mut bytes = TABLE.to_vec(rt.alloc())?;
-        bytes[place] = byte;
-        let answer = table(rt.alloc(), bytes.as_slice(), DebugAbbrevOffset::new(at)).err();
-        let wanted = Refusal::Fault(Fault {
-            kind: FaultKind::Abbrev,
-            at: fault,
-        });
-        assert_eq!(rt; answer, Some(wanted), "at {place}");
+    for row in FAULTS.lines() {
+        check_fault(&rt, rt.alloc(), row)?;
     }
-    let wanted = Refusal::Fault(Fault {
-        kind: FaultKind::Abbrev,
-        at: 0,
-    });
-    let answer = table(rt.alloc(), b"", DebugAbbrevOffset::new(0)).err();
-    assert_eq!(rt; answer, Some(wanted));
+    Ok(())
+}
+
+#[test]
+fn an_empty_section_has_no_abbreviations(rt: HostRuntime) -> Result<(), Fail> {
+    let told = fault_of(rt.alloc(), b"", 0)?;
+    expect(&rt, told, "Abbrev 0", "an empty section");
     Ok(())
 }

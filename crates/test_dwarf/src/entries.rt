@@ -1,12 +1,15 @@
 // What entries say, in hand-made units: names, origins, addresses and signatures.
-ghost use Rattle.std.specs.Prelude.{◌≤◌, length};
-ghost use Rattle.abi_base.specs.Limits.{input_limit};
-
-use abi_base::{Fault, FaultKind, INPUT_LIMIT, Refusal};
+use crate::rows::{
+    byte, changed, cut, entry, expect, hexadecimal, index, number, numbers_text, refusal_text,
+    sections,
+};
+use abi_base::{NoMemory, Refusal};
 use dwarf_entries::*;
 use dwarf_forms::{DebugInfoOffset, Sections, Value};
 use dwarf_tree::EntryNumber;
-use std::alloc::{AllocError, Global};
+use std::alloc::Global;
+use std::process::Abort;
+use std::str;
 use std::test::*;
 
 // The abbreviations of a unit, of a base type, of a function, of a type unit, and of a function whose type is a signature.
@@ -68,234 +71,217 @@ const NAMELESS: &[u8] =
 const RANGELESS: &[u8] =
     b"\x11\x00\x00\x00\x05\x00\x01\x08\x00\x00\x00\x00\x01\x0c\x00\x09\x00\x00\x00\x00\x00";
 
-// The bytes, or none if they exceed the limit of an input.
-fn within_limit(bytes: &[u8]) -> &[u8]
-    ensures { length result.now ≤ input_limit }
-{
-    if bytes.len() > INPUT_LIMIT {
-        &[]
+fn info_of(name: &str) -> &'static [u8] {
+    match name {
+        "function" => FUNCTION,
+        "type unit" => TYPE_UNIT,
+        "chain" => CHAIN,
+        "circle" => CIRCLE,
+        "structure" => STRUCTURE,
+        "nameless" => NAMELESS,
+        _ => RANGELESS,
+    }
+}
+
+fn abbrevs_of(name: &str) -> &'static [u8] {
+    match name {
+        "function" | "type unit" => ABBREVS,
+        _ => CHAIN_ABBREVS,
+    }
+}
+
+// The sections with a name.
+fn sections_of(name: &str) -> Sections<'static> {
+    if name == "indexed" {
+        INDEXED
     } else {
-        bytes
+        sections(abbrevs_of(name), info_of(name))
     }
 }
 
-fn sections<'a>(abbrev: &'a [u8], info: &'a [u8]) -> Sections<'a> {
-    Sections {
-        info: within_limit(info),
-        abbrev: within_limit(abbrev),
-        str: b"",
-        line_str: b"",
-        str_offsets: b"",
-        addr: b"",
-        rnglists: b"",
-        ranges: b"",
-    }
-}
-
-// Why the entries are refused, if they are.
-fn refusal(alloc: Global, sections: Sections) -> Option<Refusal> {
+// The fault of the entries of these sections, or nothing if they have none.
+fn fault_of(alloc: Global, sections: Sections) -> Result<String, NoMemory> {
     match tree(alloc, sections) {
-        Ok(_) => None,
-        Err(refused) => Some(refused),
+        Ok(_) => Ok(String::new(alloc)),
+        Err(refusal) => refusal_text(alloc, refusal),
     }
 }
 
-// The bytes, with another one at a position.
-fn changed(alloc: Global, bytes: &[u8], at: usize, byte: u8) -> Result<Vec<u8>, AllocError> {
-    let mut changed = Vec::from_slice(alloc, bytes)?;
-    if let Some(place) = changed.get_mut(at) {
-        *place = byte;
-    }
-    Ok(changed)
+// The columns of a line: a unit | the position of a byte in it | the hexadecimal byte that is to stand there | the fault. Worked by
+// hand from DWARF 5, sections 2.13, 3.1.4, 7.5.5 and 7.32.
+const CHANGES: &str = "\
+function|0|22|
+function|25|10|Reference 22
+type unit|51|11|
+type unit|51|12|Reference 48
+chain|0|3b|
+chain|22|11|Reference 21
+chain|26|10|Reference 21
+circle|16|0f|OriginTooDeep 15
+circle|16|0c|
+structure|15|07|Reference 15
+nameless|16|00|Text 15
+rangeless|16|00|Ranges 15
+";
+
+// The fault of a unit with a changed byte.
+fn changed_fault(alloc: Global, name: &str, at: u64, with: u8) -> Result<String, NoMemory> {
+    let info = changed(alloc, info_of(name), at, with)?;
+    fault_of(alloc, sections(abbrevs_of(name), info.as_slice()))
 }
 
-// Abbreviations, a unit, the position of a byte in it, the byte that is to stand there, and the fault. Worked by hand from DWARF 5,
-// sections 2.13, 3.1.4, 7.5.5 and 7.32.
-const CHANGES: [(&[u8], &[u8], usize, u8, Option<(FaultKind, u64)>); 12] = [
-    (ABBREVS, FUNCTION, 0, 0x22, None),
-    (
-        ABBREVS,
-        FUNCTION,
-        25,
-        0x10,
-        Some((FaultKind::Reference, 22)),
-    ),
-    (ABBREVS, TYPE_UNIT, 51, 0x11, None),
-    (
-        ABBREVS,
-        TYPE_UNIT,
-        51,
-        0x12,
-        Some((FaultKind::Reference, 48)),
-    ),
-    (CHAIN_ABBREVS, CHAIN, 0, 0x3b, None),
-    (
-        CHAIN_ABBREVS,
-        CHAIN,
-        22,
-        0x11,
-        Some((FaultKind::Reference, 21)),
-    ),
-    (
-        CHAIN_ABBREVS,
-        CHAIN,
-        26,
-        0x10,
-        Some((FaultKind::Reference, 21)),
-    ),
-    (
-        CHAIN_ABBREVS,
-        CIRCLE,
-        16,
-        15,
-        Some((FaultKind::OriginTooDeep, 15)),
-    ),
-    (CHAIN_ABBREVS, CIRCLE, 16, 12, None),
-    (
-        CHAIN_ABBREVS,
-        STRUCTURE,
-        15,
-        7,
-        Some((FaultKind::Reference, 15)),
-    ),
-    (CHAIN_ABBREVS, NAMELESS, 16, 0, Some((FaultKind::Text, 15))),
-    (
-        CHAIN_ABBREVS,
-        RANGELESS,
-        16,
-        0,
-        Some((FaultKind::Ranges, 15)),
-    ),
-];
+fn check_change(rt: &impl Abort, alloc: Global, row: &str) -> Result<(), NoMemory> {
+    let (name, cells) = cut(row);
+    let (at, cells) = cut(cells);
+    let (with, wanted) = cut(cells);
+    let told = changed_fault(alloc, name, number(at), byte(with))?;
+    expect(rt, told, wanted, row);
+    Ok(())
+}
 
 #[test]
 fn each_entry_has_its_fault(rt: HostRuntime) -> Result<(), Fail> {
-    let alloc = rt.alloc();
-    for (abbrevs, info, at, byte, want) in CHANGES {
-        let entries = changed(alloc, info, at, byte)?;
-        assert_eq!(rt;
-            refusal(alloc, sections(abbrevs, entries.as_slice())),
-            want.map(|(kind, at)| Refusal::Fault(Fault { kind, at })),
-            "{entries:?} {at}"
-        );
+    for row in CHANGES.lines() {
+        check_change(&rt, rt.alloc(), row)?;
     }
     Ok(())
 }
 
-// The first entry of the chain with a name, the last entry of the chain, and the entry's own address.
-fn said<'a>(dwarf: &Dwarf<'a>, e: EntryNumber) -> (Option<&'a [u8]>, EntryNumber, Option<u64>) {
-    if e.index() < dwarf.len() {
-        (dwarf.name_of(e), dwarf.origin(e), dwarf.entry_address(e))
-    } else {
-        (None, EntryNumber::new(0), None)
+// The columns of a line: the sections | the number of an entry | the first name along its chain of origins, the number of the last
+// entry of the chain, and the entry's own address. Worked by hand from DWARF 5, sections 2.13, 2.17, 2.18, 3.1.1 and 3.3.8.
+const SAID: &str = "\
+indexed|0|a.c 0 None
+indexed|1|int 1 None
+indexed|2|f 2 Some(4096)
+chain|0|- 0 None
+chain|1|a 1 None
+chain|3|b 2 None
+chain|4|c 4 None
+chain|5|a 1 None
+chain|6|d 6 Some(4096)
+chain|7|d 6 None
+";
+
+// What an entry says; a minus stands for no name.
+fn said(alloc: Global, dwarf: &Dwarf, e: EntryNumber) -> Result<String, NoMemory> {
+    if e.index() >= dwarf.len() {
+        return Ok(String::from_str(alloc, "no entry")?);
     }
+    let name = str::from_utf8(dwarf.name_of(e).unwrap_or(b"-")).unwrap_or("no text");
+    let (origin, address) = (dwarf.origin(e).index(), dwarf.entry_address(e));
+    Ok(format!(in alloc; "{name} {origin} {address:?}")?)
 }
 
-// Worked by hand from DWARF 5, sections 2.13, 2.17, 2.18, 3.1.1 and 3.3.8.
+fn said_in(alloc: Global, sections: Sections, e: EntryNumber) -> Result<String, Refusal> {
+    let dwarf = tree(alloc, sections)?;
+    Ok(said(alloc, &dwarf, e)?)
+}
+
+fn check_said(rt: &impl Abort, alloc: Global, row: &str) -> Result<(), Refusal> {
+    let (name, cells) = cut(row);
+    let (number, wanted) = cut(cells);
+    let told = said_in(alloc, sections_of(name), entry(number))?;
+    expect(rt, told, wanted, row);
+    Ok(())
+}
+
 #[test]
 fn each_entry_has_its_name_origin_and_address(rt: HostRuntime) -> Result<(), Fail> {
-    let rows: [(Sections, u32, Option<&[u8]>, u32, Option<u64>); 10] = [
-        (INDEXED, 0, Some(b"a.c"), 0, None),
-        (INDEXED, 1, Some(b"int"), 1, None),
-        (INDEXED, 2, Some(b"f"), 2, Some(0x1000)),
-        (sections(CHAIN_ABBREVS, CHAIN), 0, None, 0, None),
-        (sections(CHAIN_ABBREVS, CHAIN), 1, Some(b"a"), 1, None),
-        (sections(CHAIN_ABBREVS, CHAIN), 3, Some(b"b"), 2, None),
-        (sections(CHAIN_ABBREVS, CHAIN), 4, Some(b"c"), 4, None),
-        (sections(CHAIN_ABBREVS, CHAIN), 5, Some(b"a"), 1, None),
-        (
-            sections(CHAIN_ABBREVS, CHAIN),
-            6,
-            Some(b"d"),
-            6,
-            Some(0x1000),
-        ),
-        (sections(CHAIN_ABBREVS, CHAIN), 7, Some(b"d"), 6, None),
-    ];
-    for (sections, e, name, origin, address) in rows {
-        match tree(rt.alloc(), sections) {
-            Ok(dwarf) => {
-                let wanted = (name, EntryNumber::new(origin), address);
-                assert_eq!(rt; said(&dwarf, EntryNumber::new(e)), wanted, "{e}");
-            }
-            Err(refused) => assert!(rt; false, "{refused:?}"),
-        }
+    for row in SAID.lines() {
+        check_said(&rt, rt.alloc(), row)?;
     }
     Ok(())
 }
 
-fn entry(number: u32) -> Option<EntryNumber> {
-    Some(EntryNumber::new(number))
+// The columns of a line: the sections | a hexadecimal number | the entry with this address, and the type with this signature. Worked
+// by hand from DWARF 5, sections 2.17, 3.1.4 and 7.32.
+const NUMBERS: &str = "\
+indexed|1000|Some(2) None
+indexed|1001|None None
+chain|1000|Some(6) None
+type unit|1000|Some(3) None
+type unit|8877665544332211|None Some(1)
+";
+
+fn numbered(alloc: Global, sections: Sections, number: u64) -> Result<String, Refusal> {
+    let dwarf = tree(alloc, sections)?;
+    let (typed, signed) = (
+        index(dwarf.typed(number)),
+        index(dwarf.by_signature(number)),
+    );
+    Ok(format!(in alloc; "{typed:?} {signed:?}")?)
 }
 
-// Worked by hand from DWARF 5, sections 2.17, 3.1.4 and 7.32.
+fn check_number(rt: &impl Abort, alloc: Global, row: &str) -> Result<(), Refusal> {
+    let (name, cells) = cut(row);
+    let (number, wanted) = cut(cells);
+    let told = numbered(alloc, sections_of(name), hexadecimal(number))?;
+    expect(rt, told, wanted, row);
+    Ok(())
+}
+
 #[test]
 fn entries_stand_for_addresses_and_signatures(rt: HostRuntime) -> Result<(), Fail> {
-    let rows = [
-        (INDEXED, 0x1000, entry(2), None),
-        (INDEXED, 0x1001, None, None),
-        (sections(CHAIN_ABBREVS, CHAIN), 0x1000, entry(6), None),
-        (sections(ABBREVS, TYPE_UNIT), 0x1000, entry(3), None),
-        (
-            sections(ABBREVS, TYPE_UNIT),
-            0x8877_6655_4433_2211,
-            None,
-            entry(1),
-        ),
-    ];
-    for (sections, number, typed, signed) in rows {
-        match tree(rt.alloc(), sections) {
-            Ok(dwarf) => {
-                assert_eq!(rt; dwarf.typed(number), typed, "{number:x}");
-                assert_eq!(rt; dwarf.by_signature(number), signed, "{number:x}");
-            }
-            Err(refused) => assert!(rt; false, "{refused:?}"),
-        }
+    for row in NUMBERS.lines() {
+        check_number(&rt, rt.alloc(), row)?;
     }
     Ok(())
 }
 
 // A function inherits the name of its origin, but not the address.
+fn check_inherited(rt: &impl Abort, dwarf: &Dwarf) {
+    assert_eq!(rt; dwarf.len(), 8);
+    let origin = EntryNumber::new(6);
+    let function = EntryNumber::new(7);
+    let told = [
+        dwarf.own(function, 0x03),
+        dwarf.attr(function, 0x03),
+        dwarf.attr(origin, 0x11),
+        dwarf.attr(function, 0x11),
+    ];
+    let name = Value::Inline { from: 47 };
+    assert_eq!(rt;
+        told,
+        [None, Some(name), Some(Value::Address(0x1000)), None]
+    );
+    assert_eq!(rt; dwarf.info(), CHAIN);
+}
+
 #[test]
 fn a_name_is_taken_along_the_chain_and_an_address_is_not(rt: HostRuntime) -> Result<(), Fail> {
-    match tree(rt.alloc(), sections(CHAIN_ABBREVS, CHAIN)) {
-        Ok(dwarf) => {
-            assert_eq!(rt; dwarf.len(), 8);
-            let origin = EntryNumber::new(6);
-            let function = EntryNumber::new(7);
-            assert_eq!(rt; dwarf.own(function, 0x03), None);
-            assert_eq!(rt;
-                dwarf.attr(function, 0x03),
-                Some(Value::Inline { from: 47 })
-            );
-            assert_eq!(rt; dwarf.attr(origin, 0x11), Some(Value::Address(0x1000)));
-            assert_eq!(rt; dwarf.attr(function, 0x11), None);
-            assert_eq!(rt; dwarf.info(), CHAIN);
-        }
-        Err(refused) => assert!(rt; false, "{refused:?}"),
-    }
+    let dwarf = tree(rt.alloc(), sections(CHAIN_ABBREVS, CHAIN))?;
+    check_inherited(&rt, &dwarf);
     Ok(())
 }
 
+// The functions below the root.
+fn functions_text(alloc: Global, dwarf: &Dwarf) -> Result<String, NoMemory> {
+    let root = EntryNumber::new(0);
+    if root.index() >= dwarf.len() {
+        return Ok(String::from_str(alloc, "no entry")?);
+    }
+    let functions = dwarf.tagged(alloc, root, 0x2e)?;
+    numbers_text(alloc, functions.as_slice())
+}
+
 // The functions below the root are at 15, 18, 21, 37, 46 and 57, and the lexical block between them.
+fn check_children(rt: &impl Abort, dwarf: &Dwarf) {
+    assert_eq!(rt; dwarf.len(), 8);
+    let block = Value::Reference(DebugInfoOffset::new(30));
+    let told = [
+        index(dwarf.next_child(EntryNumber::new(0), None)),
+        index(dwarf.find(DebugInfoOffset::new(37))),
+        index(dwarf.target(&block)),
+    ];
+    assert_eq!(rt; told, [Some(1), Some(5), Some(4)]);
+    assert!(rt; dwarf.is_declaration(EntryNumber::new(1)));
+}
+
 #[test]
 fn children_of_a_tag_are_listed(rt: HostRuntime) -> Result<(), Fail> {
-    match tree(rt.alloc(), sections(CHAIN_ABBREVS, CHAIN)) {
-        Ok(dwarf) => {
-            assert_eq!(rt; dwarf.len(), 8);
-            let root = EntryNumber::new(0);
-            let functions = dwarf.tagged(rt.alloc(), root, 0x2e)?;
-            assert_eq!(rt;
-                functions.as_slice(),
-                [1, 2, 3, 5, 6, 7].map(EntryNumber::new).as_slice()
-            );
-            assert_eq!(rt; dwarf.next_child(root, None), entry(1));
-            assert_eq!(rt; dwarf.find(DebugInfoOffset::new(37)), entry(5));
-            let block = Value::Reference(DebugInfoOffset::new(30));
-            assert_eq!(rt; dwarf.target(&block), entry(4));
-            assert!(rt; dwarf.is_declaration(EntryNumber::new(1)));
-        }
-        Err(refused) => assert!(rt; false, "{refused:?}"),
-    }
+    let dwarf = tree(rt.alloc(), sections(CHAIN_ABBREVS, CHAIN))?;
+    check_children(&rt, &dwarf);
+    let told = functions_text(rt.alloc(), &dwarf)?;
+    expect(&rt, told, " 1 2 3 5 6 7", "functions");
     Ok(())
 }

@@ -1,60 +1,33 @@
 // The values of attributes in each form, worked by hand from the standard.
-use abi_base::{Fault, FaultKind};
+use crate::rows::{bytes_of, cut, expect, fault_text, hexadecimal, number};
+use abi_base::{Fault, NoMemory};
 use dwarf_forms::abbreviations::Spec;
 use dwarf_forms::*;
+use std::alloc::Global;
+use std::process::Abort;
 use std::test::*;
 
 // The offset of the entry of each row.
 const ENTRY: u64 = 50;
 
-// A form, the start of its unit, the bytes up to the end of the unit, and the offset to which the form refers at the first of them,
-// with the number of its bytes. Worked by hand from DWARF 5, section 7.5.6.
-const REFERENCES: [(u64, u64, &[u8], u64, usize); 3] = [
-    // DW_FORM_ref4, DW_FORM_ref_addr, DW_FORM_ref8
-    (0x13, 100, &[0x0f, 0, 0, 0], 115, 4),
-    (0x10, 100, &[0x0f, 0, 0, 0], 15, 4),
-    (
-        0x14,
-        2,
-        &[0xff, 0xff, 0xff, 0xff, 0xff, 0xff, 0xff, 0xff],
-        1,
-        8,
-    ),
-];
-
-// A form, the start of its unit, the bytes up to the end of the unit, and the value that the form encodes at the first of them, with
-// the number of its bytes, or the fault. Worked by hand from DWARF 5, section 7.5.6.
-const ROWS: [(u64, u64, &[u8], Result<(Value, usize), FaultKind>); 11] = [
-    // DW_FORM_indirect before DW_FORM_data1, DW_FORM_implicit_const and itself
-    (0x16, 0, &[0x0b, 7], Ok((Value::Unsigned(7), 2))),
-    (0x16, 0, &[0x21], Err(FaultKind::Form)),
-    (0x16, 0, &[0x16, 0x0b], Err(FaultKind::Form)),
-    // DW_FORM_strp_sup
-    (0x1d, 0, &[0, 0, 0, 0], Err(FaultKind::Supplementary)),
-    // a number that is not a form
-    (0, 0, &[0, 0, 0, 0], Err(FaultKind::Form)),
-    // DW_FORM_flag
-    (0x0c, 0, &[2], Ok((Value::Flag(true), 1))),
-    // DW_FORM_block2
-    (
-        0x03,
-        0,
-        &[2, 0, 0xaa, 0xbb],
-        Ok((Value::Block { from: 2, to: 4 }, 4)),
-    ),
-    // DW_FORM_string
-    (
-        0x08,
-        0,
-        &[0x61, 0x62, 0],
-        Ok((Value::Inline { from: 0 }, 3)),
-    ),
-    // DW_FORM_data16
-    (0x1e, 0, &[0; 15], Err(FaultKind::Cut)),
-    // DW_FORM_strx3, DW_FORM_strx4
-    (0x27, 0, &[1, 2, 3, 4], Ok((Value::StrIndex(0x30201), 3))),
-    (0x28, 0, &[1, 2, 3, 4], Ok((Value::StrIndex(0x4030201), 4))),
-];
+// The columns of a line: the form | its hexadecimal number | the start of its unit | the bytes up to the end of the unit | the value
+// that the form encodes at the first of them, with the number of its bytes, or the fault. Worked by hand from DWARF 5, section 7.5.6.
+const ROWS: &str = "\
+DW_FORM_ref4|13|100|0f 00 00 00|Reference(DebugInfoOffset { bytes: 115 }) 4
+DW_FORM_ref_addr|10|100|0f 00 00 00|Reference(DebugInfoOffset { bytes: 15 }) 4
+DW_FORM_ref8|14|2|ff ff ff ff ff ff ff ff|Reference(DebugInfoOffset { bytes: 1 }) 8
+DW_FORM_indirect before DW_FORM_data1|16|0|0b 07|Unsigned(7) 2
+DW_FORM_indirect before DW_FORM_implicit_const|16|0|21|Form 50
+DW_FORM_indirect before itself|16|0|16 0b|Form 50
+DW_FORM_strp_sup|1d|0|00 00 00 00|Supplementary 50
+a number that is not a form|0|0|00 00 00 00|Form 50
+DW_FORM_flag|0c|0|02|Flag(true) 1
+DW_FORM_block2|03|0|02 00 aa bb|Block { from: 2, to: 4 } 4
+DW_FORM_string|08|0|61 62 00|Inline { from: 0 } 3
+DW_FORM_data16|1e|0|00 00 00 00 00 00 00 00 00 00 00 00 00 00 00|Cut 50
+DW_FORM_strx3|27|0|01 02 03 04|StrIndex(197121) 3
+DW_FORM_strx4|28|0|01 02 03 04|StrIndex(67305985) 4
+";
 
 // The value that a form encodes at the first of the bytes, in a unit that ends behind them.
 fn value_in(form: u64, start: u64, bytes: &[u8]) -> Result<(Value, usize), Fault> {
@@ -70,14 +43,32 @@ fn value_in(form: u64, start: u64, bytes: &[u8]) -> Result<(Value, usize), Fault
     value(bytes, unit, ENTRY, spec, 0)
 }
 
+fn told(alloc: Global, form: u64, start: u64, bytes: &[u8]) -> Result<String, NoMemory> {
+    match value_in(form, start, bytes) {
+        Ok((value, size)) => Ok(format!(in alloc; "{value:?} {size}")?),
+        Err(fault) => fault_text(alloc, fault),
+    }
+}
+
+fn told_of(alloc: Global, form: u64, start: u64, bytes: &str) -> Result<String, NoMemory> {
+    let bytes = bytes_of(alloc, bytes)?;
+    told(alloc, form, start, bytes.as_slice())
+}
+
+fn check_form(rt: &impl Abort, alloc: Global, row: &str) -> Result<(), NoMemory> {
+    let (_, cells) = cut(row);
+    let (form, cells) = cut(cells);
+    let (start, cells) = cut(cells);
+    let (bytes, wanted) = cut(cells);
+    let told = told_of(alloc, hexadecimal(form), number(start), bytes)?;
+    expect(rt, told, wanted, row);
+    Ok(())
+}
+
 #[test]
-fn each_form_spells_its_value(rt: HostRuntime) {
-    for (form, start, bytes, want) in ROWS {
-        let want = want.map_err(|kind| Fault { kind, at: ENTRY });
-        assert_eq!(rt; value_in(form, start, bytes), want, "form {form}");
+fn each_form_spells_its_value(rt: HostRuntime) -> Result<(), Fail> {
+    for row in ROWS.lines() {
+        check_form(&rt, rt.alloc(), row)?;
     }
-    for (form, start, bytes, offset, size) in REFERENCES {
-        let want = Ok((Value::Reference(DebugInfoOffset::new(offset)), size));
-        assert_eq!(rt; value_in(form, start, bytes), want, "form {form}");
-    }
+    Ok(())
 }

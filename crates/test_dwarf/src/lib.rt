@@ -12,6 +12,8 @@ mod places;
 #[cfg(test)]
 mod ranges;
 #[cfg(test)]
+mod rows;
+#[cfg(test)]
 mod texts;
 #[cfg(test)]
 mod trees;

@@ -1,12 +1,11 @@
 // Places in the source of the entries of hand-made units.
-ghost use Rattle.std.specs.Prelude.{◌≤◌, length};
-ghost use Rattle.abi_base.specs.Limits.{input_limit};
-
+use crate::rows::{cut, expect, number, sections};
 use abi_base::{Effort, Limit, NoMemory};
-use dwarf_forms::{DebugInfoOffset, Sections};
+use dwarf_forms::DebugInfoOffset;
 use entry_places::{DeclarationPlace, EntryPlaces, PlaceReader};
 use std::alloc::Global;
 use std::process::Abort;
+use std::str;
 use std::test::Fail;
 
 // A unit with a line program and a directory, and a structure with a file and a line.
@@ -47,55 +46,60 @@ const PLACES_5: &str = "\
 // A budget for this many bytes is enough for the places of each unit.
 const BYTES: usize = 64;
 
-// Sections with these entries.
-fn sections(info: &[u8]) -> Sections<'_>
-    requires { length info.now ≤ input_limit }
-{
-    Sections {
-        info,
-        abbrev: ABBREVS,
-        str: b"",
-        line_str: b"",
-        str_offsets: b"",
-        addr: b"",
-        rnglists: b"",
-        ranges: b"",
-    }
-}
-
-// The text before the first bar, and the text after it.
-fn cut(text: &str) -> (&str, &str) {
-    text.split_once('|').unwrap_or((text, ""))
-}
-
-fn number(text: &str) -> u64 {
-    text.parse().unwrap_or(0)
-}
-
-fn expect_place(rt: &impl Abort, place: Option<&DeclarationPlace>, wanted: &str) {
-    let (file, line) = cut(wanted);
+// The file and the line of a place, if there is one.
+fn place_text(alloc: Global, place: Option<&DeclarationPlace>) -> Result<String, NoMemory> {
     match place {
+        None => Ok(String::from_str(alloc, "|")?),
         Some(place) => {
-            assert_eq!(rt; place.file.as_slice(), file.as_bytes());
-            assert_eq!(rt; place.line, number(line));
+            let file = str::from_utf8(place.file.as_slice()).unwrap_or("no text");
+            let line = place.line;
+            Ok(format!(in alloc; "{file}|{line}")?)
         }
-        None => assert_eq!(rt; wanted, "|"),
     }
+}
+
+fn told_at(
+    alloc: Global,
+    places: &mut PlaceReader<'_, '_>,
+    offset: u64,
+) -> Result<String, NoMemory> {
+    let place = places.place_of(alloc, DebugInfoOffset::new(offset))?;
+    place_text(alloc, place.as_ref())
+}
+
+fn check_place(
+    rt: &impl Abort,
+    alloc: Global,
+    places: &mut PlaceReader<'_, '_>,
+    row: &str,
+) -> Result<(), NoMemory> {
+    let (offset, wanted) = cut(row);
+    let told = told_at(alloc, places, number(offset))?;
+    expect(rt, told, wanted, row);
+    Ok(())
 }
 
 fn check_places(
+    rt: &impl Abort,
+    alloc: Global,
+    places: &mut PlaceReader<'_, '_>,
+    rows: &str,
+) -> Result<(), NoMemory> {
+    for row in rows.lines() {
+        check_place(rt, alloc, places, row)?;
+    }
+    Ok(())
+}
+
+// The same with a reader of its own.
+fn check_entries(
     rt: &impl Abort,
     alloc: Global,
     places: &EntryPlaces<'_>,
     rows: &str,
 ) -> Result<(), NoMemory> {
     let mut reader = PlaceReader::new(alloc, Effort::for_bytes(Limit::Report, BYTES), places);
-    for row in rows.lines() {
-        let (offset, wanted) = cut(row);
-        let place = reader.place_of(alloc, DebugInfoOffset::new(number(offset)))?;
-        expect_place(rt, place.as_ref(), wanted);
-    }
-    Ok(())
+    check_places(rt, alloc, &mut reader, rows)
 }
 
 // Checks the places of the entries of a unit, with a line program.
@@ -105,11 +109,9 @@ fn check_unit(
     unit: &[u8],
     line: &[u8],
     rows: &str,
-) -> Result<(), NoMemory>
-    requires { length unit.now ≤ input_limit }
-{
-    match EntryPlaces::read(alloc, &sections(unit), line)? {
-        Some(places) => check_places(rt, alloc, &places, rows),
+) -> Result<(), NoMemory> {
+    match EntryPlaces::read(alloc, &sections(ABBREVS, unit), line)? {
+        Some(places) => check_entries(rt, alloc, &places, rows),
         None => {
             assert_eq!(rt; rows, "damaged");
             Ok(())

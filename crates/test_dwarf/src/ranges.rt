@@ -1,11 +1,11 @@
 // Range lists, worked by hand from the standard, and the effort that they take.
-ghost use Rattle.std.specs.Prelude.{◌≤◌, length};
-ghost use Rattle.abi_base.specs.Limits.{input_limit};
-
-use abi_base::{Effort, Fault, FaultKind, INPUT_LIMIT, Limit};
+use crate::rows::{bytes_of, cut, expect, fault_text, number, within_limit};
+use abi_base::{Effort, Limit, NoMemory};
 use dwarf_forms::{DebugInfoOffset, Sections};
 use dwarf_text::Bases;
 use dwarf_text::ranges::*;
+use std::alloc::Global;
+use std::process::Abort;
 use std::test::*;
 
 // The offset of the debugging information entry with the lists.
@@ -31,9 +31,8 @@ const NO_BASES: Bases = Bases {
 };
 
 // Sections whose lists of ranges and pairs are these bytes.
-fn sections(lists: &[u8]) -> Sections<'_>
-    requires { length lists.now ≤ input_limit }
-{
+fn sections(lists: &[u8]) -> Sections<'_> {
+    let lists = within_limit(lists);
     Sections {
         info: &[],
         abbrev: &[],
@@ -46,135 +45,130 @@ fn sections(lists: &[u8]) -> Sections<'_>
     }
 }
 
-// The position of a list, the bytes of its section, and the address at which its first range begins, or the fault. Worked by hand
-// from DWARF 5, section 7.25, and DWARF 4, section 2.17.3.
-const ROWS: [(ListAt, &[u8], Result<Option<u64>, FaultKind>); 22] = [
-    (
-        ListAt::Offset(0),
-        &[7, 0, 0x10, 0, 0, 0, 0, 0, 0, 0x10, 0],
-        Ok(Some(4096)),
-    ),
-    (ListAt::Offset(0), &[4, 8, 0x10, 0], Ok(Some(8200))),
-    (ListAt::Offset(0), &[4, 8, 8, 0], Ok(Some(8200))),
-    (ListAt::Offset(0), &[0], Ok(None)),
-    (ListAt::Offset(0), &[8], Err(FaultKind::Ranges)),
-    (ListAt::Offset(0), &[], Err(FaultKind::Ranges)),
-    (ListAt::Offset(0), &[4, 8], Err(FaultKind::Ranges)),
-    (ListAt::Offset(0), &[2, 0, 1, 0], Ok(Some(0x1000))),
-    (ListAt::Offset(0), &[2, 1, 2, 0], Err(FaultKind::Index)),
-    (ListAt::Offset(0), &[3, 2], Err(FaultKind::Index)),
-    (ListAt::Offset(0), &[3, 1], Err(FaultKind::Ranges)),
-    (ListAt::Offset(0), &[1, 1, 4, 8, 9, 0], Ok(Some(0x3008))),
-    (
-        ListAt::Offset(0),
-        &[5, 0, 0x40, 0, 0, 0, 0, 0, 0, 4, 8, 9, 0],
-        Ok(Some(0x4008)),
-    ),
-    (
-        ListAt::Offset(0),
-        &[
-            5, 0xff, 0xff, 0xff, 0xff, 0xff, 0xff, 0xff, 0xff, 4, 8, 9, 0,
-        ],
-        Ok(Some(7)),
-    ),
-    (
-        ListAt::Offset(0),
-        &[6, 0, 0x50, 0, 0, 0, 0, 0, 0, 0, 0x60, 0, 0, 0, 0, 0, 0, 0],
-        Ok(Some(0x5000)),
-    ),
-    (ListAt::Offset(1), &[8, 4, 8, 9, 0], Ok(Some(8200))),
-    (
-        ListAt::Index(1),
-        &[8, 0, 0, 0, 9, 0, 0, 0, 0, 4, 8, 9, 0],
-        Ok(Some(8200)),
-    ),
-    (
-        ListAt::Index(1),
-        &[8, 0, 0, 0, 9, 0, 0],
-        Err(FaultKind::Index),
-    ),
-    (ListAt::Index(0), &[5, 0, 0, 0], Err(FaultKind::Ranges)),
-    (
-        ListAt::Pairs(0),
-        &[
-            0xff, 0xff, 0xff, 0xff, 0xff, 0xff, 0xff, 0xff, 0, 0x20, 0, 0, 0, 0, 0, 0, 8, 0, 0, 0,
-            0, 0, 0, 0, 0x10, 0, 0, 0, 0, 0, 0, 0,
-        ],
-        Ok(Some(8200)),
-    ),
-    (ListAt::Pairs(0), &[0; 15], Err(FaultKind::Ranges)),
-    (ListAt::Pairs(0), &[0; 16], Ok(None)),
-];
+// The columns of a line: the position of a list | the bytes of its section | the address at which its first range begins, or the
+// fault. Worked by hand from DWARF 5, section 7.25, and DWARF 4, section 2.17.3.
+const ROWS: &str = "\
+offset 0|07 00 10 00 00 00 00 00 00 10 00|Some(4096)
+offset 0|04 08 10 00|Some(8200)
+offset 0|04 08 08 00|Some(8200)
+offset 0|00|None
+offset 0|08|Ranges 50
+offset 0||Ranges 50
+offset 0|04 08|Ranges 50
+offset 0|02 00 01 00|Some(4096)
+offset 0|02 01 02 00|Index 50
+offset 0|03 02|Index 50
+offset 0|03 01|Ranges 50
+offset 0|01 01 04 08 09 00|Some(12296)
+offset 0|05 00 40 00 00 00 00 00 00 04 08 09 00|Some(16392)
+offset 0|05 ff ff ff ff ff ff ff ff 04 08 09 00|Some(7)
+offset 0|06 00 50 00 00 00 00 00 00 00 60 00 00 00 00 00 00 00|Some(20480)
+offset 1|08 04 08 09 00|Some(8200)
+index 1|08 00 00 00 09 00 00 00 00 04 08 09 00|Some(8200)
+index 1|08 00 00 00 09 00 00|Index 50
+index 0|05 00 00 00|Ranges 50
+pairs 0|ff ff ff ff ff ff ff ff 00 20 00 00 00 00 00 00 08 00 00 00 00 00 00 00 10 00 00 00 00 00 00 00|Some(8200)
+pairs 0|00 00 00 00 00 00 00 00 00 00 00 00 00 00 00|Ranges 50
+pairs 0|00 00 00 00 00 00 00 00 00 00 00 00 00 00 00 00|None
+";
+
+// The position of a list: the kind of its number, and the number.
+fn list_of(cell: &str) -> ListAt {
+    let (kind, at) = cell.split_once(' ').unwrap_or((cell, ""));
+    let at = number(at);
+    match kind {
+        "offset" => ListAt::Offset(at),
+        "index" => ListAt::Index(at),
+        _ => ListAt::Pairs(at),
+    }
+}
+
+// The address at which the first range of a list begins, or the fault.
+fn told(alloc: Global, list: ListAt, bases: &Bases, bytes: &[u8]) -> Result<String, NoMemory> {
+    match first_address(list, bases, &sections(bytes), DebugInfoOffset::new(ENTRY)) {
+        Ok(found) => Ok(format!(in alloc; "{found:?}")?),
+        Err(fault) => fault_text(alloc, fault),
+    }
+}
+
+fn told_of(alloc: Global, list: &str, bytes: &str) -> Result<String, NoMemory> {
+    let bytes = bytes_of(alloc, bytes)?;
+    told(alloc, list_of(list), &BASES, bytes.as_slice())
+}
+
+fn check_first(rt: &impl Abort, alloc: Global, row: &str) -> Result<(), NoMemory> {
+    let (list, cells) = cut(row);
+    let (bytes, wanted) = cut(cells);
+    let told = told_of(alloc, list, bytes)?;
+    expect(rt, told, wanted, row);
+    Ok(())
+}
 
 #[test]
-fn each_list_begins_where_its_first_range_does(rt: HostRuntime) {
-    for (list, bytes, want) in ROWS {
-        assert!(rt; bytes.len() <= INPUT_LIMIT);
-        let found = first_address(list, &BASES, &sections(bytes), DebugInfoOffset::new(ENTRY));
-        let want = want.map_err(|kind| Fault { kind, at: ENTRY });
-        assert_eq!(rt; found, want, "at {list:?} of {bytes:?}");
+fn each_list_begins_where_its_first_range_does(rt: HostRuntime) -> Result<(), Fail> {
+    for row in ROWS.lines() {
+        check_first(&rt, rt.alloc(), row)?;
     }
-    let without_bases = first_address(
-        ListAt::Index(0),
-        &NO_BASES,
-        &sections(&[4, 0, 0, 0, 0]),
-        DebugInfoOffset::new(ENTRY),
-    );
-    let fault = Fault {
-        kind: FaultKind::Index,
-        at: ENTRY,
-    };
-    assert_eq!(rt; without_bases, Err(fault));
+    Ok(())
+}
+
+#[test]
+fn an_index_wants_a_base(rt: HostRuntime) -> Result<(), Fail> {
+    let told = told(rt.alloc(), ListAt::Index(0), &NO_BASES, &[4, 0, 0, 0, 0])?;
+    expect(&rt, told, "Index 50", "no bases");
+    Ok(())
 }
 
 // The effort for one byte.
 const EFFORT: usize = 64;
 
-// The position of a list, the bytes of its section, and the number of bytes up to the end of its first range.
-#[derive(Drop)]
-struct ListRow<'a> {
-    list: ListAt,
-    bytes: &'a [u8],
-    want: usize,
+// The columns of a line: the position of a list | the bytes of its section | the number of bytes up to the end of its first range.
+const EFFORTS: &str = "\
+offset 0|04 08 10 00|3
+offset 0|05 00 40 00 00 00 00 00 00 04 08 09 04 08 09 00|12
+offset 9|05 00 40 00 00 00 00 00 00 04 08 09 04 08 09 00|3
+offset 0|01 01 08|2
+offset 0|00|0
+index 1|08 00 00 00 09 00 00|0
+pairs 0|ff ff ff ff ff ff ff ff 00 20 00 00 00 00 00 00 08 00 00 00 00 00 00 00 10 00 00 00 00 00 00 00|32
+pairs 0|00 00 00 00 00 00 00 00 00 00 00 00 00 00 00 00|0
+";
+
+// Expects the first range to take all of this effort, and no more.
+fn check_spent(rt: &impl Abort, list: ListAt, bytes: &[u8], want: usize) {
+    let mut effort = Effort::for_bytes(Limit::RangeLists, 1);
+    let spent = spend_first(list, &BASES, &sections(bytes), &mut effort).is_ok();
+    let rest = effort.spend(EFFORT.saturating_sub(want)).is_ok();
+    let more = effort.spend(1).is_ok();
+    assert_eq!(rt;
+        [spent, rest, more],
+        [true, true, false],
+        "{list:?} of {bytes:?}"
+    );
 }
 
-fn row_of<'a>(list: ListAt, bytes: &'a [u8], want: usize) -> ListRow<'a> {
-    ListRow { list, bytes, want }
+fn check_effort(rt: &impl Abort, alloc: Global, row: &str) -> Result<(), NoMemory> {
+    let (list, cells) = cut(row);
+    let (bytes, want) = cut(cells);
+    let bytes = bytes_of(alloc, bytes)?;
+    check_spent(rt, list_of(list), bytes.as_slice(), number(want) as usize);
+    Ok(())
 }
 
 #[test]
-fn a_list_takes_the_effort_for_its_bytes_up_to_its_first_range(rt: HostRuntime) {
-    let base_and_pair = [5, 0, 0x40, 0, 0, 0, 0, 0, 0, 4, 8, 9, 4, 8, 9, 0];
-    let pairs_of_addresses = [
-        0xff, 0xff, 0xff, 0xff, 0xff, 0xff, 0xff, 0xff, 0, 0x20, 0, 0, 0, 0, 0, 0, 8, 0, 0, 0, 0,
-        0, 0, 0, 0x10, 0, 0, 0, 0, 0, 0, 0,
-    ];
-    let rows = [
-        row_of(ListAt::Offset(0), &[4, 8, 0x10, 0], 3),
-        row_of(ListAt::Offset(0), &base_and_pair, 12),
-        row_of(ListAt::Offset(9), &base_and_pair, 3),
-        row_of(ListAt::Offset(0), &[1, 1, 8], 2),
-        row_of(ListAt::Offset(0), &[0], 0),
-        row_of(ListAt::Index(1), &[8, 0, 0, 0, 9, 0, 0], 0),
-        row_of(ListAt::Pairs(0), &pairs_of_addresses, 32),
-        row_of(ListAt::Pairs(0), &[0; 16], 0),
-    ];
-    for row in &rows {
-        assert!(rt; row.bytes.len() <= INPUT_LIMIT);
-        let mut effort = Effort::for_bytes(Limit::RangeLists, 1);
-        let spent = spend_first(row.list, &BASES, &sections(row.bytes), &mut effort);
-        assert!(rt; spent.is_ok(), "at {:?} of {:?}", row.list, row.bytes);
-        let rest = effort.spend(EFFORT.saturating_sub(row.want));
-        assert!(rt; rest.is_ok(), "at {:?} of {:?}", row.list, row.bytes);
-        let more = effort.spend(1);
-        assert!(rt; more.is_err(), "at {:?} of {:?}", row.list, row.bytes);
+fn a_list_takes_the_effort_for_its_bytes_up_to_its_first_range(
+    rt: HostRuntime,
+) -> Result<(), Fail> {
+    for row in EFFORTS.lines() {
+        check_effort(&rt, rt.alloc(), row)?;
     }
+    Ok(())
+}
+
+#[test]
+fn without_effort_no_list_is_read(rt: HostRuntime) {
     let mut no_effort = Effort::for_bytes(Limit::RangeLists, 0);
-    let refused = spend_first(
-        ListAt::Offset(0),
-        &BASES,
-        &sections(&base_and_pair),
-        &mut no_effort,
-    );
+    let lists = sections(&[5, 0, 0x40, 0, 0, 0, 0, 0, 0, 4, 8, 9, 4, 8, 9, 0]);
+    let refused = spend_first(ListAt::Offset(0), &BASES, &lists, &mut no_effort);
     assert!(rt; refused.is_err());
 }

@@ -1,11 +1,16 @@
 // What no contract states: a tree is read if there is enough memory, and worked values from outside.
-ghost use Rattle.std.specs.Prelude.{◌<◌, ◌≤◌, length};
-ghost use Rattle.abi_base.specs.Limits.{input_limit};
+ghost use Rattle.std.specs.Prelude.{◌<◌, length};
 
-use abi_base::{Fault, FaultKind, Refusal};
-use dwarf_forms::{DebugInfoOffset, Sections, Value};
-use dwarf_tree::{EntryNumber, Head, Tree, read_tree};
-use std::alloc::{AllocError, Global};
+use crate::rows::{
+    byte, bytes_of, changed, cut, entry, expect, hexadecimal, index, number, numbers_text,
+    refusal_text, sections,
+};
+use abi_base::{NoMemory, Refusal};
+use dwarf_forms::{DebugInfoOffset, Sections};
+use dwarf_tree::{EntryNumber, Tree, read_tree};
+use std::alloc::Global;
+use std::fmt::Write;
+use std::process::Abort;
 use std::test::Fail;
 
 // The abbreviations of a unit, of a structure with a list of entries, of a member, of a base type with two sizes, and of a
@@ -27,27 +32,6 @@ const MANY: usize = 400;
 // The number of attributes of each entry. If values were stored, these would take 24,000 slots.
 const ATTRIBUTES: usize = 60;
 
-// Sections with these bytes.
-fn sections<'a>(info: &'a [u8], abbrevs: &'a [u8]) -> Sections<'a>
-    requires info { length info.now ≤ input_limit }
-    requires abbrevs { length abbrevs.now ≤ input_limit }
-{
-    Sections {
-        info,
-        abbrev: abbrevs,
-        str: b"",
-        line_str: b"",
-        str_offsets: b"",
-        addr: b"",
-        rnglists: b"",
-        ranges: b"",
-    }
-}
-
-fn entry(number: u32) -> Option<EntryNumber> {
-    Some(EntryNumber::new(number))
-}
-
 // The first three children of an entry.
 fn children(tree: &Tree<'_>, e: EntryNumber) -> [Option<EntryNumber>; 3]
     requires { e < length tree.now.entries }
@@ -64,156 +48,294 @@ fn children(tree: &Tree<'_>, e: EntryNumber) -> [Option<EntryNumber>; 3]
     [first, second, third]
 }
 
-#[test]
-fn entries_of_all_units_are_one_list(rt: HostRuntime) -> Result<(), Fail> {
-    let tree = read_tree(rt.alloc(), &sections(INFO, ABBREVS))?;
-    let rows = [
-        (12, 0, 0x11, 0, [entry(1), entry(5), None]),
-        (14, 1, 0x13, 0, [entry(2), entry(4), None]),
-        (18, 2, 0x13, 0, [entry(3), None, None]),
-        (22, 3, 0x0d, 0, [None, None, None]),
-        (26, 2, 0x0d, 0, [None, None, None]),
-        (30, 1, 0x24, 0, [None, None, None]),
-        (60, 0, 0x41, 1, [entry(7), None, None]),
-        (61, 1, 0x24, 1, [None, None, None]),
-    ];
-    assert_eq!(rt; tree.len(), rows.len());
-    tree.known();
-    for number in 0..tree.len() {
-        let e = EntryNumber::new(number as u32);
-        let row = (
-            tree.offset(e).get(),
-            tree.depth(e),
-            tree.tag(e),
-            tree.unit(e),
-            children(&tree, e),
-        );
-        assert_eq!(rt; rows.get(number), Some(&row), "at {number}");
+// The columns of a line: the offset of an entry, its depth, its hexadecimal tag, its unit, and the numbers of its first three
+// children.
+const ENTRIES: &str = "\
+12 0 11 0 1 5
+14 1 13 0 2 4
+18 2 13 0 3
+22 3 d 0
+26 2 d 0
+30 1 24 0
+60 0 41 1 7
+61 1 24 1
+";
+
+fn push_children(text: &mut String, tree: &Tree, e: EntryNumber) -> Result<(), NoMemory>
+    requires { e < length tree.now.entries }
+{
+    for child in children(tree, e) {
+        if let Some(child) = child {
+            let number = child.index();
+            write!(text, " {number}")?;
+        }
     }
     Ok(())
+}
+
+fn push_entry(text: &mut String, tree: &Tree, e: EntryNumber) -> Result<(), NoMemory>
+    requires { e < length tree.now.entries }
+{
+    let (offset, depth) = (tree.offset(e).get(), tree.depth(e));
+    let (tag, unit) = (tree.tag(e), tree.unit(e));
+    write!(text, "{offset} {depth} {tag:x} {unit}")?;
+    push_children(text, tree, e)
+}
+
+fn entries_text(alloc: Global, tree: &Tree) -> Result<String, NoMemory> {
+    let mut text = String::new(alloc);
+    tree.known();
+    for number in 0..tree.len() {
+        push_entry(&mut text, tree, EntryNumber::new(number as u32))?;
+        text.push('\n')?;
+    }
+    Ok(text)
+}
+
+#[test]
+fn entries_of_all_units_are_one_list(rt: HostRuntime) -> Result<(), Fail> {
+    let tree = read_tree(rt.alloc(), &sections(ABBREVS, INFO))?;
+    let told = entries_text(rt.alloc(), &tree)?;
+    assert_eq!(rt; told.as_str(), ENTRIES);
+    Ok(())
+}
+
+// The columns of a line: an offset | the number of the entry at it, if there is one.
+const FOUND: &str = "\
+0|none
+12|0
+13|none
+22|3
+25|none
+60|6
+61|7
+66|none
+";
+
+fn check_found(rt: &impl Abort, tree: &Tree, row: &str) {
+    let (offset, wanted) = cut(row);
+    let found = index(tree.find(DebugInfoOffset::new(number(offset))));
+    assert_eq!(rt; found, wanted.parse().ok(), "at {offset}");
 }
 
 #[test]
 fn entries_are_found(rt: HostRuntime) -> Result<(), Fail> {
-    let tree = read_tree(rt.alloc(), &sections(INFO, ABBREVS))?;
-    for (offset, e) in [
-        (0, None),
-        (12, entry(0)),
-        (13, None),
-        (22, entry(3)),
-        (25, None),
-        (60, entry(6)),
-        (61, entry(7)),
-        (66, None),
-    ] {
-        assert_eq!(rt; tree.find(DebugInfoOffset::new(offset)), e, "at {offset}");
+    let tree = read_tree(rt.alloc(), &sections(ABBREVS, INFO))?;
+    for row in FOUND.lines() {
+        check_found(&rt, &tree, row);
     }
     Ok(())
 }
 
+// The columns of a line: the version of a unit, the offset of its type, the number of its root, and its signature.
+const UNITS: &str = "\
+5 0 0 None
+5 61 6 Some(9833440827789222417)
+";
+
+fn push_unit(text: &mut String, tree: &Tree, unit: usize) -> Result<(), NoMemory>
+    requires { unit < length tree.now.units }
+{
+    let (head, root) = (tree.head(unit), tree.root(unit).index());
+    let (version, offset) = (head.version, head.type_entry.get());
+    let signature = head.signature;
+    writeln!(text, "{version} {offset} {root} {signature:?}")?;
+    Ok(())
+}
+
+fn units_text(alloc: Global, tree: &Tree) -> Result<String, NoMemory> {
+    let mut text = String::new(alloc);
+    for unit in 0..tree.units_len() {
+        push_unit(&mut text, tree, unit)?;
+    }
+    Ok(text)
+}
+
 #[test]
 fn units_have_heads_and_roots(rt: HostRuntime) -> Result<(), Fail> {
-    let tree = read_tree(rt.alloc(), &sections(INFO, ABBREVS))?;
-    let rows = [(None, 0, 0), (Some(0x8877_6655_4433_2211), 61, 6)];
-    assert_eq!(rt; tree.units_len(), rows.len());
-    for unit in 0..tree.units_len() {
-        let head = tree.head(unit);
-        let row = (
-            head.signature,
-            head.type_entry.get(),
-            tree.root(unit).index(),
-        );
-        assert_eq!(rt; rows.get(unit), Some(&row), "at {unit}");
-        assert_eq!(rt; head.version, 5, "at {unit}");
+    let tree = read_tree(rt.alloc(), &sections(ABBREVS, INFO))?;
+    let told = units_text(rt.alloc(), &tree)?;
+    assert_eq!(rt; told.as_str(), UNITS);
+    Ok(())
+}
+
+// The columns of a line: the number of an entry | the hexadecimal number of an attribute, which is 0b for DW_AT_byte_size and 03 for
+// DW_AT_name | its value.
+const VALUES: &str = "\
+1|0b|Some(Unsigned(8))
+3|0b|None
+5|0b|Some(Unsigned(4))
+5|03|Some(Inline { from: 32 })
+7|0b|Some(Unsigned(1))
+";
+
+fn value_text(alloc: Global, tree: &Tree, e: EntryNumber, name: u64) -> Result<String, NoMemory> {
+    if e.index() >= tree.len() {
+        return Ok(String::from_str(alloc, "no entry")?);
     }
+    let value = tree.own(e, name);
+    Ok(format!(in alloc; "{value:?}")?)
+}
+
+fn check_value(rt: &impl Abort, alloc: Global, tree: &Tree, row: &str) -> Result<(), NoMemory> {
+    let (number, cells) = cut(row);
+    let (name, wanted) = cut(cells);
+    let told = value_text(alloc, tree, entry(number), hexadecimal(name))?;
+    expect(rt, told, wanted, row);
     Ok(())
 }
 
 #[test]
 fn the_first_value_is_an_entrys_own(rt: HostRuntime) -> Result<(), Fail> {
-    let tree = read_tree(rt.alloc(), &sections(INFO, ABBREVS))?;
-    // DW_AT_byte_size is 0x0b, DW_AT_name 0x03.
-    for (e, name, value) in [
-        (1, 0x0b, Some(Value::Unsigned(8))),
-        (3, 0x0b, None),
-        (5, 0x0b, Some(Value::Unsigned(4))),
-        (5, 0x03, Some(Value::Inline { from: 32 })),
-        (7, 0x0b, Some(Value::Unsigned(1))),
-    ] {
-        let entry = EntryNumber::new(e);
-        assert!(rt; entry.index() < tree.len());
-        assert_eq!(rt; tree.own(entry, name), value, "at {e}");
+    let tree = read_tree(rt.alloc(), &sections(ABBREVS, INFO))?;
+    for row in VALUES.lines() {
+        check_value(&rt, rt.alloc(), &tree, row)?;
     }
+    Ok(())
+}
+
+// The columns of a line: the number of an entry | a hexadecimal tag, which is 13 for DW_TAG_structure_type, 0d for DW_TAG_member and
+// 24 for DW_TAG_base_type | the numbers of the children with this tag, each after a space.
+const TAGGED: &str = "\
+0|13| 1
+0|24| 5
+0|0d|
+1|0d| 4
+";
+
+fn tagged_text(alloc: Global, tree: &Tree, e: EntryNumber, tag: u64) -> Result<String, NoMemory> {
+    if e.index() >= tree.len() {
+        return Ok(String::from_str(alloc, "no entry")?);
+    }
+    let found = tree.tagged(alloc, e, tag)?;
+    numbers_text(alloc, found.as_slice())
+}
+
+fn check_tagged(rt: &impl Abort, alloc: Global, tree: &Tree, row: &str) -> Result<(), NoMemory> {
+    let (number, cells) = cut(row);
+    let (tag, wanted) = cut(cells);
+    let told = tagged_text(alloc, tree, entry(number), hexadecimal(tag))?;
+    expect(rt, told, wanted, row);
     Ok(())
 }
 
 #[test]
 fn children_of_a_tag_are_listed(rt: HostRuntime) -> Result<(), Fail> {
-    let tree = read_tree(rt.alloc(), &sections(INFO, ABBREVS))?;
-    // DW_TAG_structure_type is 0x13, DW_TAG_member 0x0d, DW_TAG_base_type 0x24.
-    for (e, tag, list) in [
-        (0, 0x13, &[EntryNumber::new(1)][..]),
-        (0, 0x24, &[EntryNumber::new(5)][..]),
-        (0, 0x0d, &[][..]),
-        (1, 0x0d, &[EntryNumber::new(4)][..]),
-    ] {
-        let entry = EntryNumber::new(e);
-        assert!(rt; entry.index() < tree.len());
-        let found = tree.tagged(rt.alloc(), entry, tag)?;
-        assert_eq!(rt; found.as_slice(), list, "at {e}");
+    let tree = read_tree(rt.alloc(), &sections(ABBREVS, INFO))?;
+    for row in TAGGED.lines() {
+        check_tagged(&rt, rt.alloc(), &tree, row)?;
     }
     Ok(())
 }
 
-// The abbreviations of a unit and of a member that repeats one pair of attribute and form many times, and a unit with many one-byte
-// entries of that member.
-fn many(alloc: Global, pair: &[u8]) -> Result<(Vec<u8>, Vec<u8>), AllocError> {
+// The abbreviations of a unit and of a member that repeats one pair of attribute and form many times.
+fn many_attributes(alloc: Global, pair: &[u8]) -> Result<Vec<u8>, NoMemory> {
     let mut abbrevs = b"\x01\x11\x01\x13\x0b\x00\x00\x02\x0d\x00".to_vec(alloc)?;
     for _ in 0..ATTRIBUTES {
         abbrevs.extend_from_slice(pair)?;
     }
     abbrevs.extend_from_slice(b"\x00\x00\x00")?;
+    Ok(abbrevs)
+}
+
+// A unit with many one-byte entries of that member.
+fn many_entries(alloc: Global) -> Result<Vec<u8>, NoMemory> {
     let length = MANY as u32 + 11;
     let mut info = length.to_le_bytes().to_vec(alloc)?;
     info.extend_from_slice(b"\x05\x00\x01\x08\x00\x00\x00\x00\x01\x0c")?;
-    info.extend_from_slice(&vec![in alloc; 2; MANY]?)?;
+    for _ in 0..MANY {
+        info.push(2)?;
+    }
     info.push(0)?;
-    Ok((abbrevs, info))
+    Ok(info)
+}
+
+// The columns of a line: a pair | the hexadecimal number of its attribute | the number of entries, the last entry's value of the
+// attribute, and its name. The pairs are DW_AT_declaration with DW_FORM_flag_present, and DW_AT_const_value with
+// DW_FORM_implicit_const and the value -2.
+const MANY_VALUES: &str = "\
+3c 19|3c|401 Some(Flag(true)) None
+1c 21 7e|1c|401 Some(Signed(-2)) None
+";
+
+fn last_text(alloc: Global, tree: &Tree, name: u64) -> Result<String, NoMemory> {
+    let last = EntryNumber::new(MANY as u32);
+    if last.index() >= tree.len() {
+        return Ok(String::from_str(alloc, "no entry")?);
+    }
+    let (entries, value, other) = (tree.len(), tree.own(last, name), tree.own(last, 0x03));
+    Ok(format!(in alloc; "{entries} {value:?} {other:?}")?)
+}
+
+fn told_in(alloc: Global, sections: &Sections, name: u64) -> Result<String, Refusal> {
+    let tree = read_tree(alloc, sections)?;
+    Ok(last_text(alloc, &tree, name)?)
+}
+
+fn told_with(alloc: Global, abbrevs: &[u8], name: u64) -> Result<String, Refusal> {
+    let info = many_entries(alloc)?;
+    told_in(alloc, &sections(abbrevs, info.as_slice()), name)
+}
+
+fn told_of(alloc: Global, pair: &[u8], name: u64) -> Result<String, Refusal> {
+    let abbrevs = many_attributes(alloc, pair)?;
+    told_with(alloc, abbrevs.as_slice(), name)
+}
+
+fn told(alloc: Global, pair: &str, name: &str) -> Result<String, Refusal> {
+    let pair = bytes_of(alloc, pair)?;
+    told_of(alloc, pair.as_slice(), hexadecimal(name))
+}
+
+fn check_many(rt: &impl Abort, alloc: Global, row: &str) -> Result<(), Refusal> {
+    let (pair, cells) = cut(row);
+    let (name, wanted) = cut(cells);
+    let told = told(alloc, pair, name)?;
+    expect(rt, told, wanted, row);
+    Ok(())
 }
 
 #[test]
 fn values_without_bytes_take_no_room(rt: HostRuntime) -> Result<(), Fail> {
-    // DW_AT_declaration with DW_FORM_flag_present, and DW_AT_const_value with DW_FORM_implicit_const and the value -2.
-    for (pair, name, value) in [
-        (&b"\x3c\x19"[..], 0x3c, Value::Flag(true)),
-        (&b"\x1c\x21\x7e"[..], 0x1c, Value::Signed(-2)),
-    ] {
-        let (abbrevs, info) = many(rt.alloc(), pair)?;
-        assert!(rt; abbrevs.len() < 2_000 && info.len() < 2_000);
-        let tree = read_tree(rt.alloc(), &sections(&info, &abbrevs))?;
-        assert_eq!(rt; tree.len(), MANY + 1);
-        let last = EntryNumber::new(MANY as u32);
-        assert_eq!(rt; tree.own(last, name), Some(value));
-        assert_eq!(rt; tree.own(last, 0x03), None);
+    for row in MANY_VALUES.lines() {
+        check_many(&rt, rt.alloc(), row)?;
     }
+    Ok(())
+}
+
+// The columns of a line: the position of a byte of `INFO` | the hexadecimal byte that is to stand there | the fault.
+const FAULTS: &str = "\
+4|03|DwarfVersion 0
+14|09|AbbrevCode 14
+40|03|DwarfVersion 36
+60|01|Tree 60
+";
+
+// The fault of these units, or nothing if they have none.
+fn fault_of(alloc: Global, info: &[u8]) -> Result<String, NoMemory> {
+    match read_tree(alloc, &sections(ABBREVS, info)) {
+        Ok(_) => Ok(String::new(alloc)),
+        Err(refusal) => refusal_text(alloc, refusal),
+    }
+}
+
+fn changed_fault(alloc: Global, at: u64, with: u8) -> Result<String, NoMemory> {
+    let info = changed(alloc, INFO, at, with)?;
+    fault_of(alloc, info.as_slice())
+}
+
+fn check_fault(rt: &impl Abort, alloc: Global, row: &str) -> Result<(), NoMemory> {
+    let (at, cells) = cut(row);
+    let (with, wanted) = cut(cells);
+    let told = changed_fault(alloc, number(at), byte(with))?;
+    expect(rt, told, wanted, row);
     Ok(())
 }
 
 #[test]
 fn the_first_fault_is_answered(rt: HostRuntime) -> Result<(), Fail> {
-    let alloc = rt.alloc();
-    for (at, byte, kind, place) in [
-        (4, 3, FaultKind::DwarfVersion, 0),
-        (14, 9, FaultKind::AbbrevCode, 14),
-        (40, 3, FaultKind::DwarfVersion, 36),
-        (60, 1, FaultKind::Tree, 60),
-    ] {
-        let mut info = INFO.to_vec(alloc)?;
-        assert!(rt; at < info.len());
-        info[at] = byte;
-        let read = read_tree(alloc, &sections(&info, ABBREVS));
-        let want = Refusal::Fault(Fault { kind, at: place });
-        assert_eq!(rt; read.err(), Some(want), "at {at}");
+    for row in FAULTS.lines() {
+        check_fault(&rt, rt.alloc(), row)?;
     }
     Ok(())
 }
