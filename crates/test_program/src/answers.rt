@@ -36,16 +36,6 @@ usage: abi check [--rules FILE] [--report text|table|counts|first|own] OLD NEW
        abi app [--rules FILE] [--report text|table|counts|first|own] APP OLD NEW
 ";
 
-#[test]
-fn a_yes_prints_the_certificate(rt: HostRuntime) -> Result<(), Fail> {
-    let alloc = rt.alloc();
-    let none = library(alloc, &[])?;
-    checks(&rt, &none, &none, Status::Yes, YES_WITHOUT_EXPORTS)?;
-    let old = library(alloc, &["f", "g"])?;
-    let new = library(alloc, &["g", "f"])?;
-    checks(&rt, &old, &new, Status::Yes, YES_TURNED_ROUND)
-}
-
 // The words of a cell, separated by commas; an empty cell has none.
 fn words_of<'a>(alloc: Global, cell: &'a str) -> Result<Vec<&'a str>, AllocError> {
     let mut words = Vec::new(alloc);
@@ -65,6 +55,24 @@ fn plain_library(alloc: Global, cell: &str) -> Result<Vec<u8>, AllocError> {
         "" => library(alloc, &exports),
         _ => library_with_soname(alloc, soname, &exports),
     }
+}
+
+// Expects this text from the check of two libraries, of which the new one may replace the old one.
+fn is_certified<R: Abort + AllocGlobal>(
+    rt: &R,
+    old: &str,
+    new: &str,
+    text: &str,
+) -> Result<(), Fail> {
+    let old = plain_library(rt.alloc(), old)?;
+    let new = plain_library(rt.alloc(), new)?;
+    checks(rt, &old, &new, Status::Yes, text)
+}
+
+#[test]
+fn a_yes_prints_the_certificate(rt: HostRuntime) -> Result<(), Fail> {
+    is_certified(&rt, "", "", YES_WITHOUT_EXPORTS)?;
+    is_certified(&rt, ":f,g", ":g,f", YES_TURNED_ROUND)
 }
 
 // The columns of a line: the old library, as its soname and its exports | the new one | the rows of the answer.
@@ -131,12 +139,11 @@ fn byte(text: &str) -> u8 {
 fn symbol_of(cell: &str) -> ImageSymbol<'static> {
     let (info, cell) = cut(cell, ' ');
     let (other, section) = cut(cell, ' ');
-    ImageSymbol {
-        info: byte(info),
-        other: byte(other),
-        section: u16::from_str_radix(section, 16).unwrap_or(0),
-        ..ImageSymbol::function(b"s")
-    }
+    let mut symbol = ImageSymbol::function(b"s");
+    symbol.info = byte(info);
+    symbol.other = byte(other);
+    symbol.section = u16::from_str_radix(section, 16).unwrap_or(0);
+    symbol
 }
 
 // An export of the old library is visible by its row, because the new library has no symbol.
@@ -189,16 +196,16 @@ entries,a,b
 Entries,a
 ";
 
-fn prints_the_usage<R: Abort + AllocGlobal>(rt: &R, row: &str) -> Result<(), Fail> {
-    let words = words_of(rt.alloc(), row)?;
+// Expects the usage from a run with these arguments over two empty files.
+fn prints_the_usage<R: Abort + AllocGlobal>(rt: &R, words: &[&str]) -> Result<(), Fail> {
     let mut inputs = inputs(rt.alloc(), &[("a", b""), ("b", b"")], &[])?;
-    runs(rt, &words, &mut inputs, Status::Usage, USAGE)
+    runs(rt, words, &mut inputs, Status::Usage, USAGE)
 }
 
 #[test]
 fn wrong_words_print_the_usage(rt: HostRuntime) -> Result<(), Fail> {
     for row in WRONG.lines() {
-        prints_the_usage(&rt, row)?;
+        prints_the_usage(&rt, &words_of(rt.alloc(), row)?)?;
     }
     Ok(())
 }

@@ -1,5 +1,5 @@
 // Debugging information entries: what `entries` prints, and the faults that it reports.
-use crate::fixture::{Status, change, cut, inputs, number, runs};
+use crate::fixture::{Status, change, cut, inputs, number, push_lines, runs};
 use std::alloc::{AllocError, Global};
 use std::process::Abort;
 use std::test::Fail;
@@ -72,21 +72,18 @@ fn abbreviations_of(word: &str) -> &'static [u8] {
     }
 }
 
-// The columns of a line: a unit of version 5 or 4, a type unit beside one, or none | the entries, each ended by a semicolon.
+// The columns of a line: a unit of version 5 or 4, or a type unit beside one | the entries, separated by semicolons.
 const LISTS: &str = "\
-5|12 0 11;15 1 24;22 1 2e;
-4|11 0 11;14 1 24;21 1 2e;
-type|24 0 41;25 1 24;45 0 11;48 1 2e;
-none|
+5|12 0 11;15 1 24;22 1 2e
+4|11 0 11;14 1 24;21 1 2e
+type|24 0 41;25 1 24;45 0 11;48 1 2e
 ";
 
 fn prints<R: Abort + AllocGlobal>(rt: &R, row: &str) -> Result<(), Fail> {
     let (word, lines) = cut(row, '|');
-    let file = library(rt.alloc(), abbreviations_of(word), unit_of(word))?;
     let mut text = String::new(rt.alloc());
-    for c in lines.chars() {
-        text.push(if c == ';' { '\n' } else { c })?;
-    }
+    push_lines(&mut text, lines)?;
+    let file = library(rt.alloc(), abbreviations_of(word), unit_of(word))?;
     lists(rt, &file, Status::Done, &text)
 }
 
@@ -103,9 +100,10 @@ fn entries_are_printed(rt: HostRuntime) -> Result<(), Fail> {
 fn a_library_may_have_no_entries(rt: HostRuntime) -> Result<(), Fail> {
     let alloc = rt.alloc();
     let mut image = Image::new(alloc);
+    lists(&rt, &image.bytes(alloc)?, Status::Done, "")?;
     image.add_symbols(&[ImageSymbol::function(b"f"), ImageSymbol::function(b"f")])?;
     lists(&rt, &image.bytes(alloc)?, Status::Done, "")?;
-    lists(&rt, &Image::new(alloc).bytes(alloc)?, Status::Done, "")
+    lists(&rt, &library(alloc, ABBREVS, b"")?, Status::Done, "")
 }
 
 // The unit, cut to a size, with the length field that fits.

@@ -1,12 +1,12 @@
 // The first fault of a library, by its number and its position.
 use crate::fixture::{
-    are_refused, breaks, change, cut, good_library, library_of, library_with_section, names_fault,
-    refuses,
+    are_refused, breaks, change, cut, good_library, library_of, names_fault, refuses,
 };
 use std::alloc::{AllocError, Global};
 use std::process::Abort;
 use std::test::Fail;
-use test_images::{ImageSymbol, library};
+use test_images::constants::SHT_PROGBITS;
+use test_images::{Image, ImageSection, ImageSymbol, library};
 
 // The columns of a line: a change of the library of `good_library` | its fault.
 const HEADERS: &str = "\
@@ -139,13 +139,30 @@ fn unusual_libraries_are_readable(rt: HostRuntime) -> Result<(), Fail> {
     Ok(())
 }
 
-// A section after four others: its name, and its type and flags in hexadecimal.
-fn library_of_row(alloc: Global, row: &str) -> Result<Vec<u8>, AllocError> {
+// A section of these four bytes: its name, and its type and flags in hexadecimal.
+fn section_of(alloc: Global, row: &str) -> Result<ImageSection, AllocError> {
     let (name, row) = cut(row, ' ');
     let (kind, flags) = cut(row, ' ');
     let kind = u32::from_str_radix(kind, 16).unwrap_or(0);
-    let flags = u64::from_str_radix(flags, 16).unwrap_or(0);
-    library_with_section(alloc, 4, name, kind, flags)
+    let mut section = ImageSection::new(alloc, name, kind, Vec::from_slice(alloc, b"data")?)?;
+    section.flags = u64::from_str_radix(flags, 16).unwrap_or(0);
+    Ok(section)
+}
+
+// An empty section.
+fn empty_section(alloc: Global) -> Result<ImageSection, AllocError> {
+    ImageSection::new(alloc, ".comment", SHT_PROGBITS, Vec::new(alloc))
+}
+
+// A library without exports: the symbols, their names, four empty sections, and at the end the section of a row.
+fn library_of_row(alloc: Global, row: &str) -> Result<Vec<u8>, AllocError> {
+    let mut image = Image::new(alloc);
+    image.add_symbols(&[])?;
+    for _ in 0..4 {
+        image.add_section(empty_section(alloc)?)?;
+    }
+    image.add_section(section_of(alloc, row)?)?;
+    image.bytes(alloc)
 }
 
 // The columns of a line: such a section | the fault of the library.
@@ -208,13 +225,14 @@ fn other_sections_are_passed_over(rt: HostRuntime) -> Result<(), Fail> {
 
 // The symbol for a word: `f` or `g` for a function of that name, `u` for an undefined `f`, and `l` for a local `f`.
 fn symbol_of(word: &str) -> ImageSymbol<'static> {
-    let f = ImageSymbol::function(b"f");
+    let mut symbol = ImageSymbol::function(b"f");
     match word {
-        "g" => ImageSymbol::function(b"g"),
-        "u" => ImageSymbol { section: 0, ..f },
-        "l" => ImageSymbol { info: 0x02, ..f },
-        _ => f,
+        "g" => symbol.name = b"g",
+        "u" => symbol.section = 0,
+        "l" => symbol.info = 0x02,
+        _ => {}
     }
+    symbol
 }
 
 fn library_of_words(alloc: Global, words: &str) -> Result<Vec<u8>, AllocError> {

@@ -8,7 +8,7 @@ use report::{Listener, TextListener, add_listener};
 use std::alloc::{AllocError, Global};
 use std::process::Abort;
 use std::test::Fail;
-use test_images::{Image, ImageSection, ImageSymbol, library_with_soname};
+use test_images::{Image, ImageSymbol, library_with_soname};
 
 /// The arguments of the rows, where inputs are named by their roles.
 pub const CHECK: &[&str] = &["check", "old", "new"];
@@ -135,7 +135,8 @@ fn certifies<R: Abort + AllocGlobal>(
     text: &str,
 ) -> Result<(), Fail> {
     let (ended, sink) = told(rt.alloc(), old, new)?;
-    assert_eq!(rt; sink.held().get(BEFORE_RULES..), Some(text.as_bytes()));
+    let held = str::from_utf8(sink.held()).unwrap_or("");
+    assert_eq!(rt; held.get(BEFORE_RULES..), Some(text));
     assert_eq!(rt; ended, Status::Yes);
     Ok(())
 }
@@ -161,14 +162,20 @@ pub(crate) fn number(text: &str) -> usize {
     text.parse().unwrap_or(0)
 }
 
-/// A text with a first line, followed by lines that semicolons separate.
-pub(crate) fn lines_of(alloc: Global, first: &str, lines: &str) -> Result<String, AllocError> {
-    let mut text = String::from_str(alloc, first)?;
-    text.push('\n')?;
+/// Appends lines that semicolons separate.
+pub(crate) fn push_lines(text: &mut String, lines: &str) -> Result<(), AllocError> {
     for line in lines.split(';') {
         text.push_str(line)?;
         text.push('\n')?;
     }
+    Ok(())
+}
+
+// A text with a first line, followed by lines that semicolons separate.
+fn lines_of(alloc: Global, first: &str, lines: &str) -> Result<String, AllocError> {
+    let mut text = String::from_str(alloc, first)?;
+    text.push('\n')?;
+    push_lines(&mut text, lines)?;
     Ok(text)
 }
 
@@ -184,8 +191,12 @@ pub(crate) fn good_library(alloc: Global) -> Result<Vec<u8>, AllocError> {
 // Overwrites bytes of an image. A word has an offset and the bytes from there on.
 fn put(image: &mut [u8], word: &str) {
     let (at, bytes) = cut(word, '=');
-    for (place, byte) in image.iter_mut().skip(number(at)).zip(bytes.split(',')) {
-        *place = u8::from_str_radix(byte, 16).unwrap_or(0);
+    let mut place = number(at);
+    for digits in bytes.split(',') {
+        if let Some(byte) = image.get_mut(place) {
+            *byte = u8::from_str_radix(digits, 16).unwrap_or(0);
+        }
+        place = place.saturating_add(1);
     }
 }
 
@@ -200,25 +211,6 @@ pub(crate) fn change(image: &mut [u8], changes: &str) {
 pub(crate) fn library_of(alloc: Global, symbols: &[ImageSymbol]) -> Result<Vec<u8>, AllocError> {
     let mut image = Image::new(alloc);
     image.add_symbols(symbols)?;
-    image.bytes(alloc)
-}
-
-/// A library without exports: the symbols, their names, `before` comments, and at the end a section with that name, type and flags.
-pub(crate) fn library_with_section(
-    alloc: Global,
-    before: usize,
-    name: &str,
-    kind: u32,
-    flags: u64,
-) -> Result<Vec<u8>, AllocError> {
-    let mut image = Image::new(alloc);
-    image.add_symbols(&[])?;
-    for _ in 0..before {
-        image.add_section(ImageSection::new(alloc, ".comment", 1, Vec::new(alloc))?)?;
-    }
-    let mut section = ImageSection::new(alloc, name, kind, Vec::from_slice(alloc, b"data")?)?;
-    section.flags = flags;
-    image.add_section(section)?;
     image.bytes(alloc)
 }
 

@@ -1,7 +1,14 @@
 // The bytes of the images that `test_images` builds.
-use std::alloc::AllocError;
+use std::alloc::{AllocError, Global};
+use std::process::Abort;
 use test_images::constants::{SHT_PROGBITS, VER_FLG_BASE, VERSYM_HIDDEN};
 use test_images::*;
+
+// Expects these bytes of a file from a position on.
+fn has<R: Abort>(rt: &R, file: &[u8], at: usize, wanted: &[u8]) {
+    let end = at.saturating_add(wanted.len());
+    assert_eq!(rt; file.get(at..end), Some(wanted), "at {at}");
+}
 
 // A file with two exports and a soname: 72 bytes of symbols at 64, 5 of names at 136, 32 of the dynamic table at 144, 6 of the
 // soname's strings at 176, 49 of section names at 184, and six section headers at 240.
@@ -18,10 +25,10 @@ fn lays_out_a_library(rt: HostRuntime) -> Result<(), AllocError> {
         0, 0, 0, 0, 0, 0, 0, 0, 0, 0, // flags, sizes and number of program headers
         64, 0, 6, 0, 5, 0, // section headers: their size, their number and the index of the section of names
     ];
-    assert_eq!(rt; file.get(..64), Some(header.as_slice()));
+    has(&rt, &file, 0, &header);
 
     let names = b"\0.dynsym\0.dynstr\0.dynamic\0.dynamic.str\0.shstrtab\0\0\0\0\0\0\0\0";
-    assert_eq!(rt; file.get(184..240), Some(names.as_slice()));
+    has(&rt, &file, 184, names);
 
     let dynamic = [
         17, 0, 0, 0, 6, 0, 0, 0, // name and type
@@ -30,7 +37,7 @@ fn lays_out_a_library(rt: HostRuntime) -> Result<(), AllocError> {
         4, 0, 0, 0, 0, 0, 0, 0, // link and info
         8, 0, 0, 0, 0, 0, 0, 0, 16, 0, 0, 0, 0, 0, 0, 0, // alignment and size of entries
     ];
-    assert_eq!(rt; file.get(432..496), Some(dynamic.as_slice()));
+    has(&rt, &file, 432, &dynamic);
     Ok(())
 }
 
@@ -41,26 +48,25 @@ fn numbers_exports(rt: HostRuntime) -> Result<(), AllocError> {
     let last = [
         7, 0, 0, 0, 0x12, 0, 1, 0, 0x20, 0x10, 0, 0, 0, 0, 0, 0, 16, 0, 0, 0, 0, 0, 0, 0,
     ];
-    assert_eq!(rt; file.get(136..160), Some(last.as_slice()));
-    assert_eq!(rt; file.get(160..170), Some(b"\0f0\0f1\0f2\0".as_slice()));
+    has(&rt, &file, 136, &last);
+    has(&rt, &file, 160, b"\0f0\0f1\0f2\0");
     Ok(())
+}
+
+fn section(alloc: Global, name: &str, bytes: &[u8]) -> Result<ImageSection, AllocError> {
+    ImageSection::new(alloc, name, SHT_PROGBITS, bytes.to_vec(alloc)?)
 }
 
 #[test]
 fn adds_sections(rt: HostRuntime) -> Result<(), AllocError> {
     let alloc = rt.alloc();
     let mut image = Image::new(alloc);
-    let bytes = Vec::from_slice(alloc, b"text")?;
-    let section = ImageSection::new(alloc, ".comment", SHT_PROGBITS, bytes)?;
-    assert_eq!(rt; image.add_section(section)?, 1);
+    assert_eq!(rt; image.add_section(section(alloc, ".comment", b"text")?)?, 1);
     image.add_symbols(&[ImageSymbol::function(b"f")])?;
     image.add_soname(b"a.so")?;
     let file = image.bytes(alloc)?;
-    assert_eq!(rt; file.get(64..72), Some(b"text\0\0\0\0".as_slice()));
-    assert_eq!(rt;
-        library(alloc, &["f"])?.get(112..115),
-        Some(b"\0f\0".as_slice())
-    );
+    has(&rt, &file, 64, b"text\0\0\0\0");
+    has(&rt, &library(alloc, &["f"])?, 112, b"\0f\0");
     Ok(())
 }
 
@@ -91,7 +97,7 @@ fn adds_versions(rt: HostRuntime) -> Result<(), AllocError> {
         6, 0, 0, 0, 0, 0, 0, 0, // its name
         0, b'a', b'.', b's', b'o', 0, b'V', b'1', 0, // the names
     ];
-    assert_eq!(rt; file.get(120..193), Some(versions.as_slice()));
+    has(&rt, &file, 120, &versions);
     Ok(())
 }
 
@@ -108,12 +114,11 @@ fn puts_section_names_in_the_middle(rt: HostRuntime) -> Result<(), AllocError> {
     };
     image.add_versioned_symbols(&[ImageSymbol::function(b"f")], &[0, 2], &[version])?;
     image.add_section_names()?;
-    let notes = ImageSection::new(alloc, ".note", SHT_PROGBITS, Vec::from_slice(alloc, b"x")?)?;
-    assert_eq!(rt; image.add_section(notes)?, 6);
+    assert_eq!(rt; image.add_section(section(alloc, ".note", b"x")?)?, 6);
     let file = image.bytes(alloc)?;
-    assert_eq!(rt; file.get(58..64), Some([64, 0, 7, 0, 5, 0].as_slice()));
-    assert_eq!(rt; file.get(112..118), Some(b"\0f\0V1\0".as_slice()));
+    has(&rt, &file, 58, &[64, 0, 7, 0, 5, 0]);
+    has(&rt, &file, 112, b"\0f\0V1\0");
     let names = b"\0.dynsym\0.dynstr\0.gnu.version\0.gnu.version_d\0.shstrtab\0.note\0";
-    assert_eq!(rt; file.get(160..221), Some(names.as_slice()));
+    has(&rt, &file, 160, names);
     Ok(())
 }

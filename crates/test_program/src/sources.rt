@@ -1,7 +1,9 @@
 // Inputs and sinks that fail, and long inputs.
 ghost use Rattle.std.specs.Prelude.{List, ℕ, None};
 
-use crate::fixture::{CHECK, Status, checks, cut, inputs, listeners, number, runs, status_of};
+use crate::fixture::{
+    CHECK, Status, checks, cut, inputs, listeners, number, push_lines, runs, status_of,
+};
 use abi_base::{Failed, FileInputs, Inputs, MemInputs, MemSink};
 use abi_top::run;
 use std::alloc::{AllocError, Global};
@@ -9,18 +11,23 @@ use std::process::Abort;
 use std::test::Fail;
 use test_images::library;
 
-// Two libraries that differ in the order of their exports.
-fn turned_inputs(alloc: Global) -> Result<MemInputs, AllocError> {
-    let old = library(alloc, &["f", "g"])?;
-    let new = library(alloc, &["g", "f"])?;
-    inputs(alloc, &[("old", &old), ("new", &new)], &[])
+// Two libraries with these exports. The listed reading calls fail.
+fn library_inputs(
+    alloc: Global,
+    old: &[&str],
+    new: &[&str],
+    failing: &[u64],
+) -> Result<MemInputs, AllocError> {
+    let old = library(alloc, old)?;
+    let new = library(alloc, new)?;
+    inputs(alloc, &[("old", &old), ("new", &new)], failing)
 }
 
 // The sink takes ten bytes a call, and its second call fails.
 #[test]
 fn a_failed_write_leaves_a_front(rt: HostRuntime) -> Result<(), Fail> {
     let alloc = rt.alloc();
-    let mut inputs = turned_inputs(alloc)?;
+    let mut inputs = library_inputs(alloc, &["f", "g"], &["g", "f"], &[])?;
     let listeners = listeners(alloc)?;
     let mut sink = MemSink::new(alloc, 10, vec![in alloc; 2]?)?;
     let ended = run(alloc, CHECK, &mut inputs, &mut sink, listeners);
@@ -52,13 +59,6 @@ fn status(text: &str) -> Status {
     }
 }
 
-// Two libraries. The reading call with a number fails.
-fn failing_inputs(alloc: Global, failing: u64) -> Result<MemInputs, AllocError> {
-    let old = library(alloc, &["f"])?;
-    let new = library(alloc, &[])?;
-    inputs(alloc, &[("old", &old), ("new", &new)], &[failing])
-}
-
 fn reads<R: Abort + AllocGlobal>(
     rt: &R,
     names: &str,
@@ -66,7 +66,8 @@ fn reads<R: Abort + AllocGlobal>(
     text: &str,
 ) -> Result<(), Fail> {
     let (old, new) = cut(names, ' ');
-    let mut inputs = failing_inputs(rt.alloc(), failing.parse().unwrap_or(0))?;
+    let failing = failing.parse().unwrap_or(0);
+    let mut inputs = library_inputs(rt.alloc(), &["f"], &[], &[failing])?;
     runs(rt, &["check", old, new], &mut inputs, status(text), text)
 }
 
@@ -74,10 +75,7 @@ fn ends_so<R: Abort + AllocGlobal>(rt: &R, row: &str) -> Result<(), Fail> {
     let (names, row) = cut(row, '|');
     let (failing, text) = cut(row, '|');
     let mut wanted = String::new(rt.alloc());
-    for line in text.split(';') {
-        wanted.push_str(line)?;
-        wanted.push('\n')?;
-    }
+    push_lines(&mut wanted, text)?;
     reads(rt, names, failing, &wanted)
 }
 

@@ -153,12 +153,16 @@ fn abbreviations(fault: &str) -> &'static [u8] {
     }
 }
 
-// Expects that the check and `exports` refuse a library with the fault.
-fn is_refused<R: Abort + AllocGlobal>(rt: &R, bad: &[u8], fault: &str) -> Result<(), Fail> {
-    let good = changed(rt.alloc(), ABBREVS, UNIT, "")?;
-    refuses(rt, bad, &good, fault)?;
+// Expects that `exports` refuses a library with the fault.
+fn is_not_listed<R: Abort + AllocGlobal>(rt: &R, bad: &[u8], fault: &str) -> Result<(), Fail> {
     let text = format!(in rt.alloc(); "unreadable library {fault}\n")?;
     lists(rt, bad, Status::Unreadable, &text)
+}
+
+// Expects that the check refuses a library with the fault.
+fn is_refused<R: Abort + AllocGlobal>(rt: &R, bad: &[u8], fault: &str) -> Result<(), Fail> {
+    let good = changed(rt.alloc(), ABBREVS, UNIT, "")?;
+    refuses(rt, bad, &good, fault)
 }
 
 #[test]
@@ -167,6 +171,7 @@ fn faults_of_types_are_named(rt: HostRuntime) -> Result<(), Fail> {
         let (changes, fault) = cut(row, '|');
         let bad = changed(rt.alloc(), abbreviations(fault), UNIT, changes)?;
         is_refused(&rt, &bad, fault)?;
+        is_not_listed(&rt, &bad, fault)?;
     }
     Ok(())
 }

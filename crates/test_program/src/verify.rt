@@ -1,6 +1,6 @@
 // Changed certificates, each with the answer of `verify`.
 use crate::entries::{ABBREVS, UNIT};
-use crate::fixture::{Status, cut, inputs, runs, told};
+use crate::fixture::{Status, cut, inputs, push_lines, runs, told};
 use crate::typed::changed;
 use abi_base::NoMemory;
 use std::alloc::Global;
@@ -65,21 +65,17 @@ fn certificate(alloc: Global, own: &str, heads: &str, lines: &str) -> Result<Str
             _ => writeln!(text, "old {OTHER_DIGEST}")?,
         }
     }
-    for line in lines.split(';') {
-        text.push_str(line)?;
-        text.push('\n')?;
-    }
+    push_lines(&mut text, lines)?;
     Ok(text)
 }
 
 // The status that belongs to an answer.
 fn status_of(answer: &str) -> Status {
-    if answer.starts_with("refused") {
-        Status::Refused
-    } else if answer.starts_with("unreadable") {
-        Status::Unreadable
-    } else {
-        Status::Yes
+    let (word, _) = cut(answer, ' ');
+    match word {
+        "refused" => Status::Refused,
+        "unreadable" => Status::Unreadable,
+        _ => Status::Yes,
     }
 }
 

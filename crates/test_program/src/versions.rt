@@ -6,61 +6,59 @@ use std::test::Fail;
 use test_images::constants::{VER_FLG_BASE, VER_NDX_GLOBAL, VER_NDX_LOCAL, VERSYM_HIDDEN};
 use test_images::{Image, ImageSymbol, ImageVersion, library, marker, versioned_function};
 
-// An exported data object with so many bytes.
-fn object(name: &[u8], size: u64) -> ImageSymbol<'_> {
-    ImageSymbol {
-        info: 0x11,
-        size,
-        ..ImageSymbol::function(name)
+// The symbols for words such as `f.2`, or `f.-2` for a hidden version. The symbol `V1` is that of the version.
+fn symbols_of<'a>(alloc: Global, words: &'a str) -> Result<Vec<ImageSymbol<'a>>, AllocError> {
+    let mut symbols = Vec::new(alloc);
+    for word in words.split_whitespace() {
+        let (name, _) = cut(word, '.');
+        symbols.push(match name {
+            "V1" => marker(name.as_bytes()),
+            _ => ImageSymbol::function(name.as_bytes()),
+        })?;
     }
+    Ok(symbols)
 }
 
-// A library with these symbols, each with its version index, and with version definitions of these names, whose indexes count from
-// 1.
-fn library_with_versions(
-    alloc: Global,
-    names: &[&[u8]],
-    symbols: &[(ImageSymbol, u16)],
-) -> Result<Image, AllocError> {
-    let mut records = Vec::new(alloc);
-    let mut indexes = Vec::from_slice(alloc, &[VER_NDX_LOCAL])?;
-    for (symbol, index) in symbols {
-        records.push(*symbol)?;
-        indexes.push(*index)?;
+// The version index of such a word.
+fn index_of(word: &str) -> u16 {
+    let (_, index) = cut(word, '.');
+    let (hidden, number) = match index.strip_prefix('-') {
+        Some(number) => (VERSYM_HIDDEN, number),
+        None => (0, index),
+    };
+    hidden | number.parse().unwrap_or(0)
+}
+
+// The version indexes of symbol 0 and of the symbols for such words.
+fn indexes_of(alloc: Global, words: &str) -> Result<Vec<u16>, AllocError> {
+    let mut indexes = Vec::new(alloc);
+    indexes.push(VER_NDX_LOCAL)?;
+    for word in words.split_whitespace() {
+        indexes.push(index_of(word))?;
     }
+    Ok(indexes)
+}
+
+// The definitions of versions with these names, whose indexes count from 1.
+fn versions_of<'a>(alloc: Global, names: &'a str) -> Result<Vec<ImageVersion<'a>>, AllocError> {
     let mut versions = Vec::new(alloc);
-    let mut index = VER_NDX_GLOBAL;
-    for name in names {
-        let flags = if index == VER_NDX_GLOBAL {
-            VER_FLG_BASE
-        } else {
-            0
-        };
+    let (mut index, mut flags) = (VER_NDX_GLOBAL, VER_FLG_BASE);
+    for name in names.split(',') {
+        let name = name.as_bytes();
         versions.push(ImageVersion { index, flags, name })?;
         index = index.saturating_add(1);
+        flags = 0;
     }
-    let mut image = Image::new(alloc);
-    image.add_symbols(&records)?;
-    image.add_version_indexes(&indexes)?;
-    image.add_versions(&versions)?;
-    Ok(image)
+    Ok(versions)
 }
 
-// The symbol and the version index for a word such as `f.2`, or `f.-2` for a hidden version. The symbol `V1` is that of the
-// version.
-fn versioned_symbol(word: &str) -> (ImageSymbol<'_>, u16) {
-    let (name, index) = cut(word, '.');
-    let (_, hidden) = cut(index, '-');
-    let symbol = match name {
-        "V1" => marker(name.as_bytes()),
-        _ => ImageSymbol::function(name.as_bytes()),
-    };
-    if hidden.is_empty() {
-        (symbol, index.parse().unwrap_or(0))
-    } else {
-        let index: u16 = hidden.parse().unwrap_or(0);
-        (symbol, VERSYM_HIDDEN | index)
-    }
+// A library with version definitions of these names, and with the symbols for these words.
+fn library_with_versions(alloc: Global, names: &str, words: &str) -> Result<Vec<u8>, AllocError> {
+    let mut image = Image::new(alloc);
+    image.add_symbols(&symbols_of(alloc, words)?)?;
+    image.add_version_indexes(&indexes_of(alloc, words)?)?;
+    image.add_versions(&versions_of(alloc, names)?)?;
+    image.bytes(alloc)
 }
 
 // The library of a row: names of versions, whose indexes count from 1, followed by a colon and symbols; or only a function without
@@ -70,22 +68,8 @@ fn library_of_row(alloc: Global, row: &str) -> Result<Vec<u8>, AllocError> {
     match names {
         "" => library(alloc, &[]),
         "f" => library(alloc, &["f"]),
-        _ => {
-            let mut symbols = Vec::new(alloc);
-            for word in words.split_whitespace() {
-                symbols.push(versioned_symbol(word))?;
-            }
-            library_with_versions(alloc, &names_of(alloc, names)?, &symbols)?.bytes(alloc)
-        }
+        _ => library_with_versions(alloc, names, words),
     }
-}
-
-fn names_of<'a>(alloc: Global, words: &'a str) -> Result<Vec<&'a [u8]>, AllocError> {
-    let mut names = Vec::new(alloc);
-    for word in words.split(',') {
-        names.push(word.as_bytes())?;
-    }
-    Ok(names)
 }
 
 // The columns of a line: the old library | the new one | how their symbols bind.
@@ -150,24 +134,23 @@ fn breaks_of_versions_are_told(rt: HostRuntime) -> Result<(), Fail> {
     Ok(())
 }
 
-// A symbol, given its kind and its size.
-fn symbol_of(word: &str) -> ImageSymbol<'static> {
-    let f = ImageSymbol::function(b"f");
-    match word {
-        "thread-local" => ImageSymbol { info: 0x16, ..f },
-        "object of 16" => object(b"f", 16),
-        "v of 4" => object(b"v", 4),
-        "v of 8" => object(b"v", 8),
-        _ => f,
-    }
-}
-
-// The columns of a line: the old symbol | the new one | the rows of the answer.
+// The columns of a line: the old symbol, as its name, its type, which is 1 for an object, 2 for a function and 6 for what is
+// thread-local, and its size | the new one | the rows of the answer.
 const KINDS: &str = "\
-function|object of 16|X4 f: kind FUNC, now OBJECT
-v of 4|v of 8|X5 v: object size 4, now 8
-thread-local|function|X4 f: kind TLS, now FUNC
+f 2 16|f 1 16|X4 f: kind FUNC, now OBJECT
+v 1 4|v 1 8|X5 v: object size 4, now 8
+f 6 16|f 2 16|X4 f: kind TLS, now FUNC
 ";
+
+// The symbol of a cell.
+fn symbol_of(cell: &str) -> ImageSymbol<'_> {
+    let (name, cell) = cut(cell, ' ');
+    let (kind, size) = cut(cell, ' ');
+    let mut symbol = ImageSymbol::function(name.as_bytes());
+    symbol.info = 0x10 | kind.parse().unwrap_or(0);
+    symbol.size = size.parse().unwrap_or(0);
+    symbol
+}
 
 fn is_of_other_kind<R: Abort + AllocGlobal>(rt: &R, row: &str) -> Result<(), Fail> {
     let (old, row) = cut(row, '|');
