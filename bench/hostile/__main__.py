@@ -9,12 +9,12 @@ import os
 import sys
 from pathlib import Path
 
-from . import certified, collide, entries, layouts, names, noted, pairs, rings, ruled
+from . import certified, collide, entries, layouts, names, noted, pairs, placed, rings, ruled
 from .cases import Kind
 from .measure import HEAD, Row, run_case
 
 ALL = [*entries.KINDS, *layouts.KINDS, *pairs.KINDS, *rings.KINDS, *names.KINDS, *ruled.KINDS, *certified.KINDS, *noted.KINDS]
-ALL += collide.KINDS
+ALL += [*collide.KINDS, *placed.KINDS]
 RUNS = int(os.environ.get("RUNS", "3"))
 
 

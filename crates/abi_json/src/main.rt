@@ -19,6 +19,7 @@ use crate::wanted::{Wanted, wanted_by};
 use crate::words::words_of;
 use abi_base::{FileInputs, NoMemory, StdSink, write_all};
 use commands::Outcome;
+use explain::memory_sentence;
 use std::io::ErrorKind;
 use std::process::ExitCode;
 use std::rt::{Env, Files};
@@ -29,7 +30,7 @@ fn main(rt: HostRuntime) -> ExitCode {
 }
 
 // Arguments that are not UTF-8 are replaced by none, which makes them wrong arguments.
-fn outcome_of_process<R: Files + Print + Env + AllocGlobal>(rt: &R) -> Outcome {
+fn outcome_of_process<R: Files + Print + Eprint + Env + AllocGlobal>(rt: &R) -> Outcome {
     let arguments = match arguments_of(rt) {
         Ok(arguments) => arguments,
         Err(error) => {
@@ -41,7 +42,17 @@ fn outcome_of_process<R: Files + Print + Env + AllocGlobal>(rt: &R) -> Outcome {
     };
     match outcome_of(rt, &arguments, wanted_by(rt)) {
         Ok(outcome) => outcome,
-        Err(cause) => Outcome::NoMemory(cause),
+        Err(cause) => {
+            say_cause(rt, cause);
+            Outcome::NoMemory(cause)
+        }
+    }
+}
+
+// Says on standard error why there is no document, if there is memory for the sentence.
+fn say_cause<R: Eprint + AllocGlobal>(rt: &R, cause: NoMemory) {
+    if let Ok(sentence) = memory_sentence(rt.alloc(), cause) {
+        let _ = eprintln!(rt; "abi-json: {sentence}");
     }
 }
 
