@@ -1,4 +1,5 @@
-"""Damaged line programs: whatever bytes `.debug_line` and `.debug_line_str` have, `abi-json` gives the same status and breaks.
+"""Damaged line programs: whatever bytes `.debug_line` and `.debug_line_str` have, `abi-json` gives the same status and breaks. Past the
+limit on the names of source files it gives no document, and says why.
 
 The last byte of `.debug_line_str` stays as it is: it ends the name of a unit in `.debug_info`, and an unterminated name is a fault.
 """
@@ -15,7 +16,7 @@ from pathlib import Path
 from typing import Any
 
 import pytest
-from conftest import done, needs
+from conftest import ROOT, done, needs
 from report_support import needs_json
 
 from abi_tools.elf_files import ElfFile
@@ -83,3 +84,12 @@ def test_damaged_line_programs_never_change_status_or_breaks(version: int, tmp_p
     with ThreadPoolExecutor(os.cpu_count()) as pool:
         answers = pool.map(partial(judged_damaged, old, new), range(_MUTATIONS // 2))
         assert [number for number, answer in answers if answer != whole] == []
+
+
+def test_long_names_of_files_have_a_limit(tmp_path: Path) -> None:
+    needs_json()
+    done("bash", ROOT / "bench/hostile.sh", "--make", tmp_path, "long_file_name", 1000)
+    ended = subprocess.run([os.environ["ABI_JSON"], "check", "old", "new"], stdin=subprocess.DEVNULL, capture_output=True, check=False,
+                           cwd=tmp_path)
+    said = b"abi-json: past the limit on bytes of a report (LIMITS in abi(1))\n"
+    assert (ended.returncode, ended.stdout, ended.stderr) == (4, b"", said)
