@@ -19,7 +19,8 @@ BREAK = "L7 stream_left param 1 / target: member left at bit"
 
 @pytest.fixture
 def project(tmp_path: Path, monkeypatch: pytest.MonkeyPatch) -> Iterator[Path]:
-    """The small library of the recipes, with the baseline of its release in the folder `abi`, and the tools on the PATH."""
+    """The small library of the recipes, with the baseline of its release in the folder `abi`, and the tools on the PATH. The source has
+    one more function than the release: gcc would fold an old one into it, which would lose its type."""
     programs = tmp_path / "programs"
     programs.mkdir()
     (programs / "abi").symlink_to(Path(os.environ["ABI"]).resolve())
@@ -31,6 +32,9 @@ def project(tmp_path: Path, monkeypatch: pytest.MonkeyPatch) -> Iterator[Path]:
     done("make", "-s", "libstream.so.1", folder=folder)
     assert tool("abi-baseline", folder / "libstream.so.1", folder / "abi/libstream.so.1.abi").status == 0
     done("make", "-s", "clean", folder=folder)
+    source = folder / "stream.c"
+    equal = "(const struct stream *stream) { return stream->left; }"
+    source.write_text(source.read_text().replace("unsigned stream_left", f"unsigned stream_room{equal}\nunsigned stream_left"))
     yield folder
 
 
@@ -68,7 +72,15 @@ def test_debian_rules(project: Path, tmp_path: Path) -> None:
     assert [package.name.split("_")[0] for package in made] == ["libstream1-dbgsym", "libstream1"]
     ended = tool("abi-packages", *made, "--", *made, folder=tmp_path)
     assert ended.status == 0 and "rules usr/share/doc/libstream1/abi.rules (new)" in ended.out, ended
-    assert "exports with types: old 2 of 2, new 2 of 2" in ended.out
+    assert "exports with types: old 3 of 3, new 3 of 3" in ended.out
+    # With the packages alone, the joined library gives the baseline.
+    for package in made:
+        done("dpkg-deb", "-x", package, tmp_path / "released")
+    joined, (library,) = tmp_path / "joined.so", (tmp_path / "released/usr/lib").glob("*/libstream.so.1")
+    assert tool("join-debug", "--root", tmp_path / "released", library, joined).status == 0
+    assert tool("abi-baseline", joined, tmp_path / "joined.abi").status == 0
+    ended = tool("abi-gate", "--require-types", "100", tmp_path / "joined.abi", project / "libstream.so.1")
+    assert (ended.status, ended.out) == (0, "yes: 3 exports compared, 3 with types\n"), ended
     broken(project)
     ended = debian_build(project)
     assert ended.status != 0 and BREAK in ended.out + ended.errors
