@@ -164,6 +164,9 @@ def test_headers_say_which_types_callers_see(project: Project) -> None:
     private.mkdir()
     seen = {one["title"]: one["rule_section"] is not None for one in document("--headers", public, old, new)["report"]["types"]}
     assert seen["struct stream"] is False and seen["struct state"] is True, seen
+    # In the whole tree, the source that declares struct state does not count as a header.
+    tree = document("--headers", project.folder / "old", old, new)["report"]["types"]
+    assert {one["title"]: one["rule_section"] is not None for one in tree} == seen, tree
     unseen = {one["title"]: one["rule_section"] for one in document("--headers", private, old, new)["report"]["types"]}
     assert all(unseen.values()), unseen
     rules = project.folder / "abi.rules"

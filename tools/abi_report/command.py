@@ -48,7 +48,8 @@ def _parser() -> Arguments:
     parser = Arguments("abi-report", _DESCRIPTION, _STATUSES, wrong=Verdict.CANNOT_TELL)
     parser.add_argument("--rules", type=Path, metavar="FILE", help="a rule file of abi, which says what is not compared")
     parser.add_argument("--headers", type=Path, metavar="FOLDER",
-                        help="the public headers: callers do not see types that none of them declares, and these get a rule section")
+                        help="the public headers (.h, .hh, .hpp, .hxx, .inc; other files do not count): callers do not see types that none "
+                             "of them declares, and these get a rule section")
     parser.add_argument("--format", choices=_FORMATS, default="text", metavar="FORMAT",
                         help="text (the default), json (the document of abi-json, with the blocks of the report), or html (one page that "
                              "needs no other file)")

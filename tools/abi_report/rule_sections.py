@@ -14,8 +14,9 @@ from abi_report.subjects import Described
 _SORTS = {"structure_type": "struct", "union_type": "union", "enumeration_type": "enum"}
 # Names that mean the same in a rule file as in C.
 _PLAIN = re.compile(r"[A-Za-z_][A-Za-z0-9_$.]*")
-# The suffixes of source files that are not headers.
+# The suffixes of source files that are not headers, and those of headers and the files that headers include.
 _SOURCES = (".c", ".s", ".S")
+_HEADERS = (".h", ".hh", ".hpp", ".hxx", ".inc")
 
 
 class Headers:
@@ -23,12 +24,13 @@ class Headers:
     file such as `.c` is known to be hidden."""
 
     def __init__(self, folder: Optional[Path] = None) -> None:
-        """Finds the headers. A type counts as public if its header has the same file name as a public one, since headers are usually
-        installed in another folder than the one where the library is built."""
+        """Finds the headers; other files in the folder do not count. A type counts as public if its header has the same file name as a
+        public one, since headers are usually installed in another folder than the one where the library is built."""
         self.folder = folder
         self._names: set[str] = set()
         if folder is not None:
-            self._names = {name for _, _, names in os.walk(folder, followlinks=True) for name in names}
+            found = (name for _, _, names in os.walk(folder, followlinks=True) for name in names)
+            self._names = {name for name in found if PurePosixPath(name).suffix in _HEADERS}
 
     def hides(self, place: Optional[Place]) -> bool:
         """Whether callers do not see what is declared at this place. Without a place it counts as visible."""
