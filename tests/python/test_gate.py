@@ -123,6 +123,18 @@ def test_equal_functions_that_gcc_folds_are_told(build: Build) -> None:
     assert gate(*clang).status == 0
 
 
+def test_exports_without_types_are_named(build: Build) -> None:
+    """At most five are."""
+    folded = build("folded.so", FOLDED.replace("+ 8", "+ 7"), "-g", "-O2")
+    ended = gate("--require-types", "90", folded, folded)
+    told(ended, "2 of 3 exports have types in both libraries, which is less than 90 of 100: no types of second; ", "-fno-ipa-icf")
+    code = "".join(f'asm(".globl f{n}; .type f{n}, @function; f{n}: ret; .size f{n}, 1");' for n in range(1, 8))
+    written = build("written.so", f"int first(int a) {{ return a; }}\n{code}\n", "-g", "-O2")
+    ended = gate("--require-types", "90", written, written)
+    told(ended, "1 of 8 exports", "no types of f")
+    assert ended.out.count(", f") == 4 and " and 2 more" in ended.out, ended
+
+
 def test_nothing_compared_is_told(build: Build, tmp_path: Path) -> None:
     empty = build("empty.so", "static int nothing;\n", "-g", "-nostdlib")
     told(gate(empty, empty), "nothing was compared")

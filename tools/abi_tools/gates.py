@@ -9,7 +9,7 @@ from __future__ import annotations
 from dataclasses import dataclass
 from functools import cached_property
 from pathlib import Path
-from typing import Optional
+from typing import Optional, Sequence
 
 from abi_tools.abi_program import NO, YES, Abi, Answer, Export
 from abi_tools.counting import counted
@@ -17,6 +17,10 @@ from abi_tools.debug_levels import Levels
 from abi_tools.elf_files import ElfFile
 from abi_tools.faults import Fault
 from abi_tools.verdicts import Verdict
+
+# How many exports without types a reason names.
+_NAMED = 5
+_FOLDED = "gcc may have folded equal functions; build both libraries with -fno-ipa-icf, or by clang"
 
 
 @dataclass(frozen=True)
@@ -108,7 +112,7 @@ def _of_yes(answer: Answer, old: Library, new: Library, least_share: float) -> J
     elif counted and not typed:
         reasons.append(f"no types were compared: {_without_types(old, new)}")
     elif counted and 100 * typed < least_share * len(counted):
-        reasons.append(f"{typed} of {len(counted)} exports have types in both libraries, which is less than {least_share:g} of 100")
+        reasons.append(f"{typed} of {len(counted)} exports have types in both libraries, which is less than {least_share:g} of 100: {_untyped(counted, old, new)}")
     verdict = Verdict.CANNOT_TELL if reasons else Verdict.YES
     return Judgement(verdict, tuple(reasons), answer, len(bound), typed, old, new)
 
@@ -122,8 +126,7 @@ def _of_no(answer: Answer, old: Library, new: Library) -> Judgement:
     if any(old.lacks_types(old.by_label[label]) for label in labels if label in old.by_label):
         reason = f"{counted(len(labels), 'export')} cannot be compared: {old.path} {old.levels.reason()}"
     elif all(new.is_described(new.by_label[label]) for label in labels if label in new.by_label):
-        reason = _lost(len(labels), f"{new.path} has types for the code around them: gcc may have folded equal functions; build both "
-                                    "libraries with -fno-ipa-icf, or by clang")
+        reason = _lost(len(labels), f"{new.path} has types for the code around them: {_FOLDED}")
     else:
         reason = _lost(len(labels), f"{new.path} {new.levels.reason()}")
     return Judgement(Verdict.CANNOT_TELL, (reason,), answer, old=old, new=new)
@@ -142,6 +145,15 @@ def _is_doubtful(row: str, old: Library, new: Library) -> bool:
 def _lost(count: int, why: str) -> str:
     """Says how many exports lost their types, and why."""
     return f"the types of {counted(count, 'export')} are gone: {why}"
+
+
+def _untyped(pairs: Sequence[tuple[Export, Export]], old: Library, new: Library) -> str:
+    """Names the first exports without types in one of the libraries, and says what helps if gcc may have folded equal functions."""
+    lacking = [(library, one) for pair in pairs for library, one in zip((old, new), pair) if not library.has_types(one)]
+    labels = list(dict.fromkeys(export.label for _, export in lacking))
+    more = f" and {len(labels) - _NAMED} more" if len(labels) > _NAMED else ""
+    folded = any(not export.is_typed and library.is_described(export) for library, export in lacking)
+    return f"no types of {', '.join(labels[:_NAMED])}{more}{f'; {_FOLDED}' if folded else ''}"
 
 
 def _without_types(old: Library, new: Library) -> str:
