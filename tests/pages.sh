@@ -10,7 +10,7 @@
 # minute or two of processor time.
 set -eu
 title="pages"
-tools="gcc g++ abidiff objcopy strip make python3 bsdtar /usr/bin/python3 jq dask-scheduler dask-worker prlimit /usr/bin/time"
+tools="gcc g++ abidiff objcopy strip make dh dpkg-buildpackage python3 bsdtar /usr/bin/python3 jq dask-scheduler dask-worker prlimit /usr/bin/time"
 crate=abi_cli
 print=
 [ "${1:-}" != --print ] || { print=--print && shift; }
