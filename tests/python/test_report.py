@@ -174,6 +174,8 @@ def test_headers_say_which_types_callers_see(project: Project) -> None:
     assert abi("check", "--rules", rules, old, new).out.splitlines() == ["no", "X2 old_name: gone"]
     ended = report("--headers", project.folder / "none", old, new)
     assert ended.status == 2 and "there is no folder" in ended.errors, ended
+    ended = report("--rules", project.folder / "none", old, new)
+    assert ended.status == 2 and ended.errors.endswith("none: No such file or directory\n"), ended
 
 
 def test_a_type_that_is_handed_over_by_value_gets_no_section(project: Project) -> None:

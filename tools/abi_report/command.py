@@ -35,6 +35,9 @@ def main(arguments: Sequence[str]) -> int:
         clear_output(given.certificate, inputs)
     if given.headers is not None and not given.headers.is_dir():
         raise Fault(f"there is no folder {given.headers} of headers")
+    if given.rules is not None:
+        # a rule file that cannot be opened ends the run with the words of the system
+        given.rules.open("rb").close()
     with AbiJson().started(given.old, given.new, given.rules, not (given.fast or given.quiet)) as running:
         digests = None if given.quiet or given.format == "text" else Digests(inputs)
         # The program judges while Python imports the rest of this tool and begins to read the libraries.
