@@ -1,11 +1,11 @@
 // The names of the types in breaks.
 ghost use Rattle.std.specs.Prelude.{◌<◌, length};
 
-use abi_base::NoMemory;
 use abi_base::dwarf::{
     DW_AT_name, DW_AT_str_offsets_base, DW_AT_type, DW_TAG_base_type, DW_TAG_enumeration_type,
     DW_TAG_structure_type, DW_TAG_typedef, DW_TAG_union_type,
 };
+use abi_base::{Effort, NoMemory};
 use dwarf_forms::{DebugInfoOffset, Sections, Value as Attribute};
 use dwarf_text::{Bases, text};
 use dwarf_tree::{EntryNumber, Tree};
@@ -24,6 +24,17 @@ pub(crate) struct NamedEntries<'x, 'a> {
 
 /// For each type that typedefs name, the first one of them: both by the offsets of their entries.
 pub(crate) type Typedefs = HashMap<u64, u64>;
+
+/// The names of a library's types, with a budget for those of typedefs: many typedefs can share one long name.
+#[derive(Drop)]
+pub(crate) struct TypeNames<'x, 'a> {
+    /// The entries.
+    pub entries: NamedEntries<'x, 'a>,
+    /// The typedefs that can name types without a tag.
+    pub typedefs: Typedefs,
+    /// The budget.
+    pub effort: Effort,
+}
 
 // The keyword in front of the name of a type with this tag in C; `None` if such a type has no name of its own.
 fn keyword(tag: u64) -> Option<&'static str> {
@@ -69,19 +80,22 @@ fn own_name<'a>(entries: &NamedEntries<'_, 'a>, e: EntryNumber) -> Option<&'a [u
     }
 }
 
-// The name of the first typedef of an entry.
+// The name of the first typedef of an entry. Its length is spent.
 fn name_by_typedef<'a>(
-    entries: &NamedEntries<'_, 'a>,
-    typedefs: &Typedefs,
+    names: &mut TypeNames<'_, 'a>,
     offset: DebugInfoOffset,
-) -> Option<&'a [u8]> {
-    let Some(typedef) = typedefs.get(&offset.get()).copied() else {
-        return None;
+) -> Result<Option<&'a [u8]>, NoMemory> {
+    let Some(typedef) = names.typedefs.get(&offset.get()).copied() else {
+        return Ok(None);
     };
-    match entries.tree.find(DebugInfoOffset::new(typedef)) {
-        Some(e) => own_name(entries, e),
-        None => None,
-    }
+    let Some(e) = names.entries.tree.find(DebugInfoOffset::new(typedef)) else {
+        return Ok(None);
+    };
+    let Some(name) = own_name(&names.entries, e) else {
+        return Ok(None);
+    };
+    names.effort.spend(name.len())?;
+    Ok(Some(name))
 }
 
 // A name after its keyword, if the name is UTF-8.
@@ -104,20 +118,20 @@ pub(crate) fn lacks_tag(entries: &NamedEntries<'_, '_>, offset: DebugInfoOffset)
 /// without such a name, such as pointers and arrays.
 pub(crate) fn type_name(
     alloc: Global,
-    entries: &NamedEntries<'_, '_>,
-    typedefs: &Typedefs,
+    names: &mut TypeNames<'_, '_>,
     offset: DebugInfoOffset,
 ) -> Result<Option<String>, NoMemory> {
+    let entries = names.entries;
     let Some(e) = entries.tree.find(offset) else {
         return Ok(None);
     };
     let Some(keyword) = keyword(entries.tree.tag(e)) else {
         return Ok(None);
     };
-    if let Some(name) = own_name(entries, e) {
+    if let Some(name) = own_name(&entries, e) {
         return Ok(written(alloc, keyword, name)?);
     }
-    match name_by_typedef(entries, typedefs, offset) {
+    match name_by_typedef(names, offset)? {
         Some(name) => Ok(written(alloc, "", name)?),
         None => Ok(None),
     }

@@ -2,7 +2,7 @@
 ghost use Rattle.std.specs.Prelude.{◌≤◌, length};
 ghost use Rattle.abi_base.specs.Limits.{input_limit};
 
-use crate::names::{NamedEntries, Typedefs, lacks_tag, type_name, typedefs_in};
+use crate::names::{NamedEntries, TypeNames, Typedefs, lacks_tag, type_name, typedefs_in};
 use abi_base::{Effort, Limit, NoMemory};
 use dwarf_forms::DebugInfoOffset;
 use elf::file::read_elf;
@@ -14,7 +14,7 @@ use std::collections::{HashMap, HashSet};
 use std::str;
 
 // A budget is 64 times a number of bytes (see `Effort`). Source positions may take eight bytes for each byte of the file, and a
-// mebibyte more.
+// mebibyte more, and so may the names of typedefs.
 const FILE_BYTES: usize = 8;
 
 const BYTES_BESIDE: usize = 16_384;
@@ -38,8 +38,8 @@ impl TypeFacts {
     }
 }
 
-// The budget for the source positions of a file with these bytes.
-fn place_effort(bytes: &[u8]) -> Effort {
+// The budget for the source positions in a file with these bytes, or for the names of its typedefs.
+fn effort_for(bytes: &[u8]) -> Effort {
     let counted = (bytes.len() / FILE_BYTES).saturating_add(BYTES_BESIDE);
     Effort::for_bytes(Limit::Report, counted)
 }
@@ -79,11 +79,10 @@ fn put_place(
 fn put_name(
     alloc: Global,
     map: &mut Map<String, Value>,
-    entries: &NamedEntries<'_, '_>,
-    typedefs: &Typedefs,
+    names: &mut TypeNames<'_, '_>,
     offset: DebugInfoOffset,
 ) -> Result<(), NoMemory> {
-    let Some(name) = type_name(alloc, entries, typedefs, offset)? else {
+    let Some(name) = type_name(alloc, names, offset)? else {
         return Ok(());
     };
     let offset = offset.get();
@@ -129,13 +128,12 @@ fn put_all(
     alloc: Global,
     facts: &mut TypeFacts,
     places: &mut PlaceReader<'_, '_>,
-    entries: &NamedEntries<'_, '_>,
+    names: &mut TypeNames<'_, '_>,
     offsets: &[DebugInfoOffset],
 ) -> Result<(), NoMemory> {
-    let typedefs = wanted_typedefs(alloc, entries, offsets)?;
     for offset in offsets {
         put_place(alloc, &mut facts.places, places, *offset)?;
-        put_name(alloc, &mut facts.names, entries, &typedefs, *offset)?;
+        put_name(alloc, &mut facts.names, names, *offset)?;
     }
     Ok(())
 }
@@ -164,7 +162,13 @@ pub(crate) fn type_facts(
     };
     let tree = places.tree();
     let entries = NamedEntries { tree, sections };
-    let mut reader = PlaceReader::new(alloc, place_effort(bytes), &places);
-    put_all(alloc, &mut facts, &mut reader, &entries, &offsets)?;
+    let typedefs = wanted_typedefs(alloc, &entries, &offsets)?;
+    let mut names = TypeNames {
+        entries,
+        typedefs,
+        effort: effort_for(bytes),
+    };
+    let mut reader = PlaceReader::new(alloc, effort_for(bytes), &places);
+    put_all(alloc, &mut facts, &mut reader, &mut names, &offsets)?;
     Ok(facts)
 }
