@@ -1,5 +1,5 @@
 """Damaged line programs: whatever bytes `.debug_line` and `.debug_line_str` have, `abi-json` gives the same status and breaks. Past the
-limit on the names of source files it gives no document, and says why.
+limit on the names of source files or of typedefs it gives no document, and says why.
 
 The last byte of `.debug_line_str` stays as it is: it ends the name of a unit in `.debug_info`, and an unterminated name is a fault.
 """
@@ -86,9 +86,10 @@ def test_damaged_line_programs_never_change_status_or_breaks(version: int, tmp_p
         assert [number for number, answer in answers if answer != whole] == []
 
 
-def test_long_names_of_files_have_a_limit(tmp_path: Path) -> None:
+@pytest.mark.parametrize("kind", ("long_file_name", "long_typedef_name"))
+def test_long_names_have_a_limit(kind: str, tmp_path: Path) -> None:
     needs_json()
-    done("bash", ROOT / "bench/hostile.sh", "--make", tmp_path, "long_file_name", 1000)
+    done("bash", ROOT / "bench/hostile.sh", "--make", tmp_path, kind, 1000)
     ended = subprocess.run([os.environ["ABI_JSON"], "check", "old", "new"], stdin=subprocess.DEVNULL, capture_output=True, check=False,
                            cwd=tmp_path)
     said = b"abi-json: past the limit on bytes of a report (LIMITS in abi(1))\n"
