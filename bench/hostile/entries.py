@@ -1,5 +1,7 @@
 """Generated debug information whose units, abbreviations, entries and range lists take much time or memory."""
 
+from collections.abc import Sequence
+
 from .cases import Case, Kind, against_itself, listed
 from .dwarf import (
     AT_ABSTRACT_ORIGIN,
@@ -317,70 +319,58 @@ def long_numbers(count: int) -> Case:
 AT_PRODUCER = 0x25
 
 
-def core_behind_text(count: int) -> Case:
-    """Typedefs of a structure that has its size and whether it is a declaration behind a long text."""
+def typedefs_of(count: int, attributes: Sequence[tuple[int, int]], *values: bytes) -> Case:
+    """Typedefs of a structure with these attributes."""
     info = Info()
     info.begin()
-    whole = info.add(FREE, b"t" * (20 * count) + b"\0", u32(8), u8(0))
+    whole = info.add(FREE, *values)
     info.close()
     info.function(0x1000, *[info.typedef("", whole) for _ in range(count)])
     info.close()
     info.end()
-    pairs = ((AT_PRODUCER, STRING), (AT_BYTE_SIZE, DATA4), (AT_DECLARATION, FLAG))
-    return listed(library(info, [0x1000], [Abbreviation(FREE, STRUCTURE, True, pairs)]))
+    return listed(library(info, [0x1000], [Abbreviation(FREE, STRUCTURE, True, tuple(attributes))]))
 
 
-def origin_behind_text(count: int) -> Case:
-    """Members that take their type from one other member, which has it behind a long text."""
-    info = Info()
-    info.begin()
-    number = info.number()
-    origin = info.add(FREE, b"t" * (20 * count) + b"\0", u32(number))
-    whole = info.add(STRUCT, u32(8))
-    for _ in range(count):
-        info.add(FREE + 1, b"m\0", u32(origin))
-    info.close()
-    info.function(0x1000, info.pointer(whole))
-    info.close()
-    info.end()
-    further = [
-        Abbreviation(FREE, MEMBER, False, ((AT_PRODUCER, STRING), (AT_TYPE, REF4))),
-        Abbreviation(FREE + 1, MEMBER, False, ((AT_NAME, STRING), (AT_ABSTRACT_ORIGIN, REF4))),
-    ]
-    return listed(library(info, [0x1000], further))
+def core_behind_text(count: int) -> Case:
+    """Typedefs of a structure that has its size and whether it is a declaration behind a long text."""
+    attributes = ((AT_PRODUCER, STRING), (AT_BYTE_SIZE, DATA4), (AT_DECLARATION, FLAG))
+    return typedefs_of(count, attributes, b"t" * (20 * count) + b"\0", u32(8), u8(0))
 
 
 def core_declared_by_text(count: int) -> Case:
     """Typedefs of a structure whose attribute `DW_AT_declaration` has a long text as its value."""
-    info = Info()
-    info.begin()
-    whole = info.add(FREE, u32(8), b"t" * (20 * count) + b"\0")
-    info.close()
-    info.function(0x1000, *[info.typedef("", whole) for _ in range(count)])
-    info.close()
-    info.end()
-    pairs = ((AT_BYTE_SIZE, DATA4), (AT_DECLARATION, STRING))
-    return listed(library(info, [0x1000], [Abbreviation(FREE, STRUCTURE, True, pairs)]))
+    return typedefs_of(count, ((AT_BYTE_SIZE, DATA4), (AT_DECLARATION, STRING)), u32(8), b"t" * (20 * count) + b"\0")
 
 
-def origin_named_by_text(count: int) -> Case:
-    """Members that take their name, a long text, and their type from one other member."""
+def members_of_origin(count: int, text_of: int, name: bytes) -> Case:
+    """Members that take their type, and what they lack, from one other member, which has a long text for an attribute."""
     info = Info()
     info.begin()
     number = info.number()
     origin = info.add(FREE, b"t" * (20 * count) + b"\0", u32(number))
     whole = info.add(STRUCT, u32(8))
     for _ in range(count):
-        info.add(FREE + 1, u32(origin))
+        info.add(FREE + 1, name, u32(origin))
     info.close()
     info.function(0x1000, info.pointer(whole))
     info.close()
     info.end()
+    named = ((AT_NAME, STRING),) if name else ()
     further = [
-        Abbreviation(FREE, MEMBER, False, ((AT_NAME, STRING), (AT_TYPE, REF4))),
-        Abbreviation(FREE + 1, MEMBER, False, ((AT_ABSTRACT_ORIGIN, REF4),)),
+        Abbreviation(FREE, MEMBER, False, ((text_of, STRING), (AT_TYPE, REF4))),
+        Abbreviation(FREE + 1, MEMBER, False, (*named, (AT_ABSTRACT_ORIGIN, REF4))),
     ]
     return listed(library(info, [0x1000], further))
+
+
+def origin_behind_text(count: int) -> Case:
+    """Members that take their type from one other member, which has it behind a long text."""
+    return members_of_origin(count, AT_PRODUCER, b"m\0")
+
+
+def origin_named_by_text(count: int) -> Case:
+    """Members that take their name, a long text, and their type from one other member."""
+    return members_of_origin(count, AT_NAME, b"")
 
 
 def typedefs_of_blocks(count: int) -> Case:
