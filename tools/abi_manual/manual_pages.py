@@ -25,7 +25,7 @@ def abi_page(manual: Manual) -> str:
         ".SH COMMANDS", *_commands(manual.commands),
         ".SH OPTIONS", *sentences(_OPTIONS),
         *_options(manual, ()),
-        *_statuses(manual),
+        *_statuses(manual), ".PP", "With each status from 2 on, a sentence on standard error says what is wrong.",
         ".SH LIMITS", *paragraphs(source["limits"]),
         *_examples(source["example"]),
         ".SH SEE ALSO", ".BR abi\\-json (1),", ".BR abi\\-gate (1),", ".BR abi\\-packages (1),", ".BR abi\\-report (1),", ".BR abidiff (1),", ".BR readelf (1),", ".BR pahole (1)",
@@ -42,7 +42,8 @@ def json_page(manual: Manual) -> str:
         *_synopsis("abi-json", [command.usage for command in commands]),
         ".SH DESCRIPTION", *paragraphs(source["document"]),
         ".SH OPTIONS", *_options(manual, _CHOSEN_BY_JSON),
-        *_statuses(manual), *_examples(source["json_example"]),
+        *_statuses(manual), ".PP", "With status 4 and no document, a sentence on standard error says what is wrong.",
+        *_examples(source["json_example"]),
         ".SH SEE ALSO", ".BR abi (1),", ".BR jq (1)",
     ]
     return "\n".join(lines) + "\n"
@@ -136,8 +137,6 @@ def _statuses(manual: Manual) -> Iterator[str]:
         yield ".TP"
         yield f"\\fB{status['number']}\\fR"
         yield from sentences(status["text"])
-    yield ".PP"
-    yield "With each status from 2 on, a sentence on standard error says what is wrong."
 
 
 def _examples(examples: Iterable[dict[str, str]]) -> Iterator[str]:
