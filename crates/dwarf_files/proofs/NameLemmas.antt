@@ -1,12 +1,13 @@
 -- Entries of directories and files by their numbers, and names by a header that is whole.
-use Rattle.std.proofs.Common.{◌≡◌, ℕ, List, Option, Some, None, refl, sym, ap}
+use Rattle.std.proofs.Common.{◌≡◌, ◌+◌, ℕ, List, Option, Some, None, length, refl, sym, ap, ap₂}
 use Rattle.std.specs.Prelude.{slice_get}
 use Rattle.std.proofs.lemmas.Option.{same_Some}
 use Rattle.abi_base.proofs.lemmas.Cases.{option_cases}
 use Rattle.dwarf_files.specs.declared.entries.Entry.{Entry}
 use Rattle.dwarf_files.specs.Heads.{head_of}
 use Rattle.dwarf_files.specs.Names.{PlainHeader, directories_of, files_of, place_of, directory_of, file_of, name_of, header_by, file_name_of}
-use Rattle.dwarf_files.specs.Programs.{LineProgram, name_in, header_of, listed}
+use Rattle.std.specs.Option.{option_map_or}
+use Rattle.dwarf_files.specs.Programs.{LineProgram, name_in, header_of, listed, entry_count_of}
 use Rattle.dwarf_files.specs.Steps.{◌>>=◌}
 
 listed_at : (place : ℕ) (table : Option (List Entry × ℕ)) (entries : List Entry) → listed table ≡ Some entries → slice_get entries place ≡ (table >>= λ r. slice_get r.0 place)
@@ -55,3 +56,8 @@ no_name p n is = program_cases p n None (sym is)
 
 pub name_is : (p : LineProgram) (n : ℕ) (h : PlainHeader) → Some h ≡ header_of p → name_of h n ≡ name_in p n
 name_is p n h is = program_cases p n (Some h) (sym is)
+
+-- ---- how many entries there are
+
+pub count_is : (h : PlainHeader) (directories files : List Entry) → listed (directories_of h) ≡ Some directories → listed (files_of h) ≡ Some files → length directories + length files ≡ entry_count_of h
+count_is h directories files are others = sym (ap₂ (λ (a b : Option (List Entry)). option_map_or length a 0 + option_map_or length b 0) are others)

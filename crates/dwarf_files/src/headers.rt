@@ -1,10 +1,10 @@
 // Line program headers, with their tables.
-ghost use Rattle.std.specs.Prelude.{◌≡◌, IfOk, slice_get};
+ghost use Rattle.std.specs.Prelude.{◌≡◌, ◌-◌, ◌^◌, IfOk, min, slice_get};
 ghost use Rattle.std.specs.Option.{option_copied, option_map};
 ghost use Rattle.dwarf_files.specs.Names.{entries_of, directory_of, file_of, text_of, number_of_directory, directory_text_of, whole_directory_of, name_of};
 ghost use Rattle.dwarf_files.specs.Names as spec;
 ghost use Rattle.dwarf_files.specs.Plain.{plain_header, program_at};
-ghost use Rattle.dwarf_files.specs.Programs.{header_of};
+ghost use Rattle.dwarf_files.specs.Programs.{entry_count_of, header_of};
 
 use crate::entries::Entry;
 use crate::heads::head_at;
@@ -150,8 +150,11 @@ impl<'a> HeaderTables<'a> {
         }
     }
 
-    // How many directories and files there are.
-    pub(crate) fn entry_count(&self) -> usize {
+    // How many directories and files there are, or the greatest number.
+    #[tactic(auto, using(crate::proofs::NameLemmas::count_is))]
+    pub(crate) fn entry_count(&self) -> usize
+        ensures { result ≡ min (entry_count_of self.now) (2 ^ 64 - 1) }
+    {
         let directories = self.directories.as_slice().len();
         directories.saturating_add(self.files.as_slice().len())
     }

@@ -1,8 +1,8 @@
 // The names of the files of a line program.
-ghost use Rattle.std.specs.Prelude.{◌≡◌, IfOk};
+ghost use Rattle.std.specs.Prelude.{◌≡◌, ◌-◌, ◌^◌, IfOk, min};
 ghost use Rattle.std.specs.Option.{option_map};
 ghost use Rattle.dwarf_files.specs.Plain.{program_at};
-ghost use Rattle.dwarf_files.specs.Programs.{name_in};
+ghost use Rattle.dwarf_files.specs.Programs.{entry_count_in, name_in};
 
 use crate::headers::HeaderTables;
 use crate::sections::LineSections;
@@ -50,8 +50,10 @@ impl<'a> FileNames<'a> {
         })
     }
 
-    /// How many directories and files the header has, which bounds the memory for its names.
-    pub fn entry_count(&self) -> usize {
+    /// How many directories and files the header has, or the greatest number: none if it or a table is damaged.
+    pub fn entry_count(&self) -> usize
+        ensures { result ≡ min (entry_count_in self.now) (2 ^ 64 - 1) }
+    {
         match &self.header {
             Some(header) => header.entry_count(),
             None => 0,
