@@ -5,7 +5,8 @@
 #
 # usage: ./install.sh [PREFIX]   (default: $HOME/.local)
 #
-# It proves one crate at a time for each processor and each 2 GB of free memory, whichever is fewer; JOBS sets another number.
+# It proves on a copy, as the gate does, without tests and wrong edits. What the gate or an earlier run on this machine proved is not
+# proved again. JOBS sets how many crates are proved at a time; rt chooses if it is not set.
 set -euo pipefail
 
 prefix=$(realpath -m "${1:-$HOME/.local}")
@@ -22,82 +23,73 @@ fail() {
 
 command -v rt >/dev/null || fail "the command rt of the Rattle toolchain is missing: put the folder bin of a Rattle kit on PATH"
 
-# The number of processors, or of free 2 GB pieces of memory if that is smaller; at least one.
-jobs_here() {
-    awk -v processors="$(nproc)" '/^MemAvailable:/ { jobs = int($2 / 2000000) }
-        END { if (jobs > processors) jobs = processors; print jobs < 1 ? 1 : jobs }' /proc/meminfo
-}
+work=$(mktemp -d)
+trap 'rm -rf "$work"' EXIT
 
-# How many crates a program needs proved: its own and those that it uses, from crates.txt.
-crates_in_all() {
-    awk -v program="$1" '
+# needed: prints the lines of crates.txt on the crates of the programs, and on those that these use.
+needed() {
+    awk -v programs="$programs" '
         function visit(name,    i, uses, count) {
             if (seen[name]++ || !(name in below)) return
-            total++
+            print name ":" below[name]
             count = split(below[name], uses, " ")
             for (i = 1; i <= count; i++) visit(uses[i])
         }
         { sub(/#.*/, "") }
         split($0, part, ":") == 2 { below[part[1]] = part[2] }
-        END { visit(program); print total }' "$crates"
+        END {
+            count = split(programs, program, " ")
+            for (i = 1; i <= count; i++) visit(substr(program[i], index(program[i], ":") + 1))
+        }' "$crates"
 }
 
 # follow: keeps what rt prints in the log, and shows the progress by crate.
 follow() {
-    local line count=0
+    local line count=0 total
+    total=$(wc -l <"$work/crates.txt")
     while IFS= read -r line; do
         printf '%s\n' "$line" >&3
         case $line in
-        "== summary") ;;
+        "== "*" again: "*) ;;
         "== "*) count=$((count + 1)) && echo "crate $count of $total: ${line#== }" ;;
         esac
     done 3>"$log"
 }
 
+needed >"$work/crates.txt"
+cp "$root/HANDLES" "$work"
+while IFS=: read -r crate _; do
+    mkdir -p "$work/crates/$crate"
+    (cd "$root/crates/$crate" && find . -mindepth 1 -maxdepth 1 ! -name out ! -name must-fail -exec cp -r '{}' "$work/crates/$crate" \;)
+done <"$work/crates.txt"
+
 log=$(mktemp)
-jobs=${JOBS:-$(jobs_here)}
-
-# prove CRATE: proves the crate and those that it uses. Crates that are already proved take no time.
-prove() {
-    total=$(crates_in_all "$1")
-    echo "proving $total crates for $1, $jobs at a time; the first time takes an hour or more"
-    (cd "$root/crates/$1" && rt all check --jobs "$jobs" 2>&1) | follow || {
-        sed -n '/^== summary$/,$p' "$log" | grep -v ': ok$' >&2 || tail -n 20 "$log" >&2
-        fail "not everything is proved, so nothing is installed; all that rt printed is in $log"
-    }
+echo "proving $(wc -l <"$work/crates.txt") crates; the first time takes half an hour or more"
+[ -z "${JOBS:-}" ] || export RT_JOBS=$JOBS
+(cd "$work" && rt ci 2>&1) | follow || {
+    grep -E '^rt: .*(NOT|failed)|error' "$log" >&2 || tail -n 20 "$log" >&2
+    fail "not everything is proved, so nothing is installed; all that rt printed is in $log"
 }
-
-# build CRATE: links what was proved. `rt run` also runs it: without arguments the programs print their usage and end with status 64,
-# which no step of the toolchain does.
-build() {
-    local status=0
-    rm -f "$root/crates/$1/out/$1"
-    (cd "$root/crates/$1" && rt run) >"$log" 2>&1 </dev/null || status=$?
-    [ "$status" -eq 64 ] && [ -x "$root/crates/$1/out/$1" ] || {
-        tail -n 20 "$log" >&2
-        fail "the program of $1 was not built (status $status); all that rt printed is in $log"
-    }
-}
-
-for program in $programs; do prove "${program#*:}"; done
-for program in $programs; do build "${program#*:}"; done
+for program in $programs; do
+    [ -x "$work/crates/${program#*:}/out/${program#*:}" ] || fail "the program of ${program#*:} was not built; all that rt printed is in $log"
+done
 rm -f "$log"
 
 mkdir -p "$prefix/bin"
 for program in $programs; do
     crate=${program#*:}
-    install -m 755 "$root/crates/$crate/out/$crate" "$prefix/bin/${program%%:*}"
+    install -m 755 "$work/crates/$crate/out/$crate" "$prefix/bin/${program%%:*}"
     echo "installed $prefix/bin/${program%%:*}"
 done
 
 # A tool resolves the link and finds its packages beside its own file.
 rm -rf "$prefix/lib/abi/tools"
 mkdir -p "$prefix/lib/abi/tools"
-for tool in abi-report abi-gate abi-packages abi-baseline abi-release join-debug; do
+for tool in abi-report abi-gate abi-packages abi-baseline abi-release abi-history join-debug; do
     install -m 755 "$root/tools/$tool" "$prefix/lib/abi/tools/$tool"
     ln -sfn "../lib/abi/tools/$tool" "$prefix/bin/$tool"
 done
-for package in abi_tools abi_report abi_release; do
+for package in abi abi_tools abi_report abi_release abi_history; do
     mkdir "$prefix/lib/abi/tools/$package"
     install -m 644 "$root/tools/$package"/*.* "$prefix/lib/abi/tools/$package"
 done

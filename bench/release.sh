@@ -55,11 +55,16 @@ import json, os, sys, time
 from pathlib import Path
 from abi_release.pages import write_page
 from abi_release.sources import Release, works
-from abi_release.stored_files import Store
+from abi_release.stored_files import Store, record_name
 from abi_release.tables import Table
 folder, out = map(Path, sys.argv[1:])
+class Ran:
+    """A run that is over, of which the folder has all records."""
+    store, failures, troubles = Store(out), {}, {}
+    def record(self, name):
+        return self.store.json(record_name(name))
 start = time.process_time()
-table = Table(works(*(Release.of(folder / side) for side in ("old", "new"))), [], Store(out), {})
+table = Table(works(*(Release.of(folder / side) for side in ("old", "new"))), [], Ran())
 read = time.process_time()
 head = {key: value for key, value in json.loads((out / "release.json").read_text()).items() if key not in ("lines", "counts", "digest")}
 with open(os.devnull, "w", encoding="utf-8") as stream:

@@ -59,6 +59,9 @@ done <<'END'
 64|check --loud plain.so plain.so
 64|--help=x
 64|Check plain.so plain.so
+64|CHECK plain.so plain.so
+64|plain.so check plain.so
+64|Entries plain.so
 64|"" plain.so plain.so
 64|check plain.so $'\377'
 64|verify plain.so plain.so

@@ -31,7 +31,7 @@ sys.path.insert(0, str(Path(__file__).resolve().parents[1] / "tools"))
 
 from abi_tools.abi_program import NO, YES, Abi, Answer  # noqa: E402
 from abi_tools.faults import WRONG_ARGUMENTS, Fault  # noqa: E402
-from abi_tools.joining import join  # noqa: E402
+from abi_tools.joining import join_from  # noqa: E402
 from abi_tools.package_sides import PackagedLibrary, Side  # noqa: E402
 
 _ARCHIVE = "http://deb.debian.org/debian"
@@ -154,7 +154,7 @@ class Task:
 
 def _pairs(old: Side, new: Side) -> Iterator[tuple[PackagedLibrary, PackagedLibrary]]:
     """The libraries of both sides, paired by soname or, if that has changed, by soname without its number."""
-    left, right = ({one.soname: one for one in side.libraries if str(one.name.parent) in _FOLDERS} for side in (old, new))
+    left, right = ({one.soname: one for one in side.libraries if one.folder in _FOLDERS} for side in (old, new))
     alike = {re.sub(r"[0-9.-]+", "", soname): one for soname, one in right.items() if soname not in left}
     for soname, library in left.items():
         other = right.get(soname) or alike.get(re.sub(r"[0-9.-]+", "", soname))
@@ -240,7 +240,7 @@ def _rows(task: Task, folder: Path) -> Iterator[Row]:
             try:
                 for place, side, one in zip(joined, sides, pair):
                     place.parent.mkdir(parents=True, exist_ok=True)
-                    place.write_bytes(join(one.path, side.root))
+                    place.write_bytes(join_from(side.places.read(one.path), side.places))
             except Fault as fault:
                 print(f"{sonames}: {str(fault).replace(f'{work}/', '')}", file=sys.stderr)
                 continue

@@ -7,7 +7,7 @@ from typing import Any, Iterator
 from elftools.elf.elffile import ELFFile
 
 from .entries import Entries, Unit
-from .figures import Figure, constant, times_read
+from .figures import Figure, constant, figure
 
 # An abbreviation has at least one byte each for its code, its tag, DW_CHILDREN, and the two numbers of each pair; the last pair is 0 0.
 _ABBREVIATION = 5
@@ -81,13 +81,13 @@ def abbreviations(elf: ELFFile, units: list[Unit]) -> Figure:
                 kept, room = set(), most
             room = max(0, room - size)
             kept.add(unit.abbreviations)
-    return times_read(found, len(held))
+    return figure("Abbreviations", found, len(held))
 
 
 def attributes(units: list[Unit]) -> Figure:
     """The attributes of the entries of a unit, for the unit with the most attributes for each of its bytes."""
-    figures = [times_read(unit.attributes, unit.size) for unit in units]
-    return max(figures, key=lambda figure: figure.share, default=Figure(0, 0))
+    figures = [figure("Attributes", unit.attributes, unit.size) for unit in units]
+    return max(figures, key=lambda of_unit: of_unit.share, default=Figure(0, 0))
 
 
 def _list_bytes(ranges: Any, place: int) -> int:
@@ -121,4 +121,4 @@ def range_lists(elf: ELFFile, entries: Entries) -> Figure:
     found = sum(
         _list_bytes(ranges, place) if version >= _LISTS else _pair_bytes(pairs, place) for version, place in entries.lists
     )
-    return times_read(found, len(pairs) + len(lists))
+    return figure("RangeLists", found, len(pairs) + len(lists))

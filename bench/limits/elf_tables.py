@@ -6,7 +6,7 @@ from typing import Any, Iterator, Optional
 
 from elftools.elf.elffile import ELFFile
 
-from .figures import Figure, constant, times_read
+from .figures import Figure, figure
 
 _SYMBOL = 24
 _DEFINITION = 20
@@ -23,26 +23,26 @@ def _length(name: str) -> int:
     return len(name.encode())
 
 
-def _table(elf: ELFFile, kind: str, record: int, names: Iterator[str]) -> Figure:
+def _table(limit: str, elf: ELFFile, kind: str, record: int, names: Iterator[str]) -> Figure:
     """Records of one size, each with a name, in the first section of a type."""
     section = _section(elf, kind)
     if section is None:
         return Figure(0, 0)
     strings = elf.get_section(section["sh_link"])
     found = sum(record + _length(name) for name in names)
-    return times_read(found, section["sh_size"] + strings["sh_size"])
+    return figure(limit, found, section["sh_size"] + strings["sh_size"])
 
 
 def symbols(elf: ELFFile) -> Figure:
     """Symbols with their names."""
     section = _section(elf, "SHT_DYNSYM")
     names = (symbol.name for symbol in section.iter_symbols()) if section else iter(())
-    return _table(elf, "SHT_DYNSYM", _SYMBOL, names)
+    return _table("Symbols", elf, "SHT_DYNSYM", _SYMBOL, names)
 
 
 def definitions(elf: ELFFile) -> Figure:
     """Version definitions with their names."""
-    return _table(elf, "SHT_GNU_verdef", _DEFINITION, iter(_versions(elf).values()))
+    return _table("VersionDefinitions", elf, "SHT_GNU_verdef", _DEFINITION, iter(_versions(elf).values()))
 
 
 def _versions(elf: ELFFile) -> dict[int, str]:
@@ -66,7 +66,7 @@ def exports(elf: ELFFile) -> Figure:
             index = indexes.get_symbol(number)["ndx"] if indexes else 0
             version = versions.get(index & _INDEX, "") if isinstance(index, int) else ""
             found += _length(symbol.name) + _length(version)
-    return times_read(found, _SYMBOL * section.num_symbols())
+    return figure("ExportNames", found, _SYMBOL * section.num_symbols())
 
 
 def needs(elf: ELFFile) -> Figure:
@@ -79,7 +79,7 @@ def needs(elf: ELFFile) -> Figure:
         found += _NEED + _length(need.name)
         found += sum(_AUXILIARY + _length(auxiliary.name) for auxiliary in auxiliaries)
     strings = elf.get_section(section["sh_link"])
-    return times_read(found, section["sh_size"] + strings["sh_size"])
+    return figure("VersionNeeds", found, section["sh_size"] + strings["sh_size"])
 
 
 def imports(elf: ELFFile) -> Figure:
@@ -97,11 +97,11 @@ def imports(elf: ELFFile) -> Figure:
     for number in range(1, indexes.num_symbols()):
         index = indexes.get_symbol(number)["ndx"]
         found += lengths.get(index & _INDEX, 0) if isinstance(index, int) else 0
-    return times_read(found, _SYMBOL * indexes.num_symbols())
+    return figure("ImportNeeds", found, _SYMBOL * indexes.num_symbols())
 
 
 def soname(elf: ELFFile) -> Figure:
     """The bytes of the soname."""
     dynamic = _section(elf, "SHT_DYNAMIC")
     names = [tag.soname for tag in dynamic.iter_tags("DT_SONAME")] if dynamic else []
-    return Figure(_length(names[0]) if names else 0, constant("suppressions/src/block.rt", "LONGEST_SONAME"))
+    return figure("Soname", _length(names[0]) if names else 0, 0)

@@ -1,4 +1,4 @@
-"""Counts from a library, each with the limit in the code."""
+"""Counts from a library, each with the limit in the table of the program."""
 
 from __future__ import annotations
 
@@ -10,6 +10,8 @@ _TOP = Path(__file__).resolve().parents[2]
 # An ordinary library should use at most this share of a limit.
 MOST_SHARE = 0.1
 _LEAST_SHOWN = 0.00001
+_TABLE = _TOP / "crates" / "abi_base" / "src" / "limit.rt"
+_WORDS = _TOP / "crates" / "explain" / "src" / "limits.rt"
 
 
 @dataclass(frozen=True)
@@ -31,6 +33,42 @@ class Figure:
         return f"{self.found:,} of {self.limit:,} ({percentage} %)"
 
 
+@dataclass(frozen=True)
+class Rate:
+    """How many a limit allows: `each` for so many `units`, rounded down, and `base` besides."""
+
+    each: int
+    units: int
+    base: int
+
+    def allowed(self, units: int) -> int:
+        """How many the limit allows for this many units."""
+        return self.each * units // self.units + self.base
+
+
+def _row(table: Path, limit: str, row: str) -> re.Match[str]:
+    found = re.search(rf"Limit::{limit} => {row},", table.read_text())
+    if found is None:
+        raise LookupError(f"{table} has no limit {limit}")
+    return found
+
+
+def rate(limit: str) -> Rate:
+    """The row of a limit in the table of the program."""
+    found = _row(_TABLE, limit, r"Rate::of\(([0-9_]+), ([0-9_]+), ([0-9_]+)\)")
+    return Rate(int(found[1]), int(found[2]), int(found[3]))
+
+
+def words(limit: str) -> str:
+    """The words by which the program names a limit."""
+    return _row(_WORDS, limit, '"([^"]+)"')[1]
+
+
+def figure(limit: str, found: int, units: int) -> Figure:
+    """A count, with the limit for this many units."""
+    return Figure(found, rate(limit).allowed(units))
+
+
 def constant(source: str, name: str) -> int:
     """The value of a constant of the program, from its source below crates/."""
     text = (_TOP / "crates" / source).read_text()
@@ -38,18 +76,3 @@ def constant(source: str, name: str) -> int:
     if found is None:
         raise LookupError(f"{source} has no constant {name}")
     return int(found[1], 0) << int(found[2] or 0)
-
-
-def allowed(source: str, each: str, many: int, beside: str) -> int:
-    """A limit that grows with a number: the constant `each` times `many`, and the constant `beside` more."""
-    return constant(source, each) * many + constant(source, beside)
-
-
-def allowed_by(source: str, bytes_each: str, size: int, beside: str) -> int:
-    """A limit that grows with the size of a file: the size divided by the constant `bytes_each`, and the constant `beside` more."""
-    return size // constant(source, bytes_each) + constant(source, beside)
-
-
-def times_read(found: int, held: int) -> Figure:
-    """Bytes that are read from a table of `held` bytes. The limit is a multiple of the table's size."""
-    return Figure(found, constant("abi_base/src/effort.rt", "MOST_TIMES") * held)

@@ -7,11 +7,8 @@ import subprocess
 from dataclasses import dataclass, field
 
 from .entries import AGGREGATES, WRAPPERS, Entries, Entry
-from .figures import Figure, allowed, allowed_by, constant, times_read
+from .figures import Figure, constant, figure
 
-_LIMITS = "type_graph/src/limits.rt"
-_ROOM = "library_read/src/room.rt"
-_WALKS = "psabi/src/walks.rt"
 _HIDDEN = re.compile(r"\\x[0-9a-f]{2}")
 _LABEL = re.compile(r" (?:structure|union|enumeration|typedef|builtin):(\S+)")
 _NODE = re.compile(r"node (\d+) (\w+) size (\d+) align (\d+) count (\d+)(?: .*)? tag (\S+) labels(.*)")
@@ -60,7 +57,7 @@ def read_lines(program: str, library: str) -> list[str]:
 def declared_letters(lines: list[str], size: int) -> Figure:
     """The letters of the names under which exports are declared, in a file of `size` bytes."""
     found = sum(_letters(line.split()[-1]) for line in lines if line.startswith("export "))
-    return times_read(found, size)
+    return figure("DeclaredNames", found, size)
 
 
 def read_graph(lines: list[str]) -> dict[int, Node]:
@@ -101,13 +98,13 @@ def _peeled(types: dict[int, Entry], place: int | None) -> Entry | None:
 
 def reached_types(nodes: dict[int, Node], size: int) -> Figure:
     """The types that exports reach, in a file of `size` bytes. The node of void does not count."""
-    return Figure(len(nodes) - 1, allowed_by(_LIMITS, "BYTES_A_TYPE", size, "TYPES_AT_LEAST"))
+    return figure("Types", len(nodes) - 1, size)
 
 
 def enumerators(nodes: dict[int, Node], size: int) -> Figure:
     """The enumerators of the enumerations that exports reach; their typedefs share them."""
     found = sum(len(node.parts) for node in nodes.values() if node.kind == "enumeration")
-    return Figure(found, allowed_by(_LIMITS, "BYTES_A_PART", size, "PARTS_AT_LEAST"))
+    return figure("Enumerators", found, size)
 
 
 def flat_parts(nodes: dict[int, Node], entries: Entries, size: int) -> Figure:
@@ -119,24 +116,24 @@ def flat_parts(nodes: dict[int, Node], entries: Entries, size: int) -> Figure:
             found += sum(1 for sort, _ in node.parts if sort == "param")
         elif entry is not None and entry.tag in AGGREGATES:
             found += _flat(entries.types, entry)
-    return Figure(found, allowed_by(_LIMITS, "BYTES_A_PART", size, "PARTS_AT_LEAST"))
+    return figure("Members", found, size)
 
 
 def held_parts(nodes: dict[int, Node], size: int) -> Figure:
     """The parts by which types are compared, for a file of `size` bytes."""
-    return Figure(parts(nodes), allowed_by(_ROOM, "BYTES_A_PART", size, "PARTS_AT_LEAST"))
+    return figure("Parts", parts(nodes), size)
 
 
 def letters(nodes: dict[int, Node], size: int) -> Figure:
     """The letters of the names of types and parts, for a file of `size` bytes."""
     found = sum(node.letters for node in nodes.values())
-    return Figure(found, allowed(_ROOM, "LETTERS_A_BYTE", size, "LETTERS_AT_LEAST"))
+    return figure("Letters", found, size)
 
 
 def labels(nodes: dict[int, Node]) -> Figure:
     """The names of types."""
     found = sum(node.labels for node in nodes.values())
-    return Figure(found, allowed(_LIMITS, "LABELS_A_TYPE", len(nodes) - 1, "LABELS_AT_LEAST"))
+    return figure("TypeNames", found, len(nodes) - 1)
 
 
 def _steps(nodes: dict[int, Node], place: int, known: dict[int, int]) -> int:
@@ -158,4 +155,4 @@ def walk_steps(nodes: dict[int, Node]) -> Figure:
     for node in nodes.values():
         passed = [to for sort, to in node.parts if sort in ("result", "param")]
         found += sum(_steps(nodes, to, known) for to in passed if nodes[to].size <= most and nodes[to].kind in _AGGREGATES)
-    return Figure(found, allowed(_WALKS, "STEPS_A_NODE", len(nodes), "STEPS_AT_LEAST"))
+    return figure("Leaves", found, len(nodes))

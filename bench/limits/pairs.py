@@ -6,16 +6,10 @@ import subprocess
 from collections import Counter
 from pathlib import Path
 
-from .figures import Figure, allowed, constant
+from .figures import Figure, constant, figure
 from .graphs import Node, parts
 
-_EXPLORING = "pair_explorer/src/exploring.rt"
-_BUDGET = "pair_rules/src/part_budget.rt"
-_JOINS = "cert_compose/src/fitting.rt"
 _ROOM = "pair_compare/src/reports/room.rt"
-_LISTING = "listings/src/exports/lines.rt"
-_COMPOSING = "library_check/src/composing.rt"
-_BASE = "abi_base/src/lib.rt"
 
 
 def run(program: str, *words: str) -> str:
@@ -34,19 +28,19 @@ def pair_lines(certificate: str) -> list[tuple[int, int]]:
 
 def visits(nodes: dict[int, Node], certificate: str) -> Figure:
     """The pairs of types that were visited, for a library against itself."""
-    return Figure(len(pair_lines(certificate)), allowed(_EXPLORING, "VISITS_A_TYPE", 2 * len(nodes), "VISITS_AT_LEAST"))
+    return figure("Pairs", len(pair_lines(certificate)), 2 * len(nodes))
 
 
 def compared_parts(nodes: dict[int, Node], certificate: str) -> Figure:
     """The parts of the types of each pair, for a library against itself."""
     found = sum(len(nodes[old].parts) + len(nodes[new].parts) for old, new in pair_lines(certificate))
-    return Figure(found, allowed(_BUDGET, "PARTS_A_PART", 2 * parts(nodes), "PARTS_AT_LEAST"))
+    return figure("PairParts", found, 2 * parts(nodes))
 
 
 def broken_rules(nodes: dict[int, Node], report: str) -> Figure:
     """The rows on types, each of which is a broken rule. The other library counts as one of as many types."""
     found = sum(line.startswith("L") for line in report.splitlines()[1:])
-    return Figure(found, allowed(_EXPLORING, "BREAKS_A_TYPE", 2 * len(nodes), "BREAKS_AT_LEAST"))
+    return figure("Breaks", found, 2 * len(nodes))
 
 
 def joined_lines(certificate: str) -> Figure:
@@ -54,7 +48,7 @@ def joined_lines(certificate: str) -> Figure:
     lines = pair_lines(certificate)
     behind = Counter(old for old, _ in lines)
     found = sum(1 + behind[new] for _, new in lines)
-    return Figure(found, allowed(_JOINS, "JOINS_A_LINE", 2 * len(lines), "JOINS_AT_LEAST"))
+    return figure("PairLines", found, 2 * len(lines))
 
 
 def report_bytes(report: str, old: str, new: str) -> Figure:
@@ -62,21 +56,19 @@ def report_bytes(report: str, old: str, new: str) -> Figure:
     row = constant(_ROOM, "ROW")
     found = sum(row + len(line.encode()) for line in report.splitlines()[1:])
     size = Path(old).stat().st_size + Path(new).stat().st_size
-    return Figure(found, allowed(_ROOM, "BYTES_A_BYTE", size, "BYTES_AT_LEAST"))
+    return figure("Report", found, size)
 
 
 def listing_bytes(listing: str, library: str) -> Figure:
     """The bytes that `exports` prints for a library."""
-    size = Path(library).stat().st_size
-    return Figure(len(listing.encode()), allowed(_LISTING, "BYTES_A_BYTE", size, "BYTES_AT_LEAST"))
+    return figure("Listing", len(listing.encode()), Path(library).stat().st_size)
 
 
 def composed_lines(certificate: str) -> Figure:
     """The pair lines of a composed certificate."""
-    most = constant(_BASE, "INPUT_LIMIT") // constant(_COMPOSING, "PAIR_ROOM")
-    return Figure(len(pair_lines(certificate)), most)
+    return figure("ComposedLines", len(pair_lines(certificate)), 0)
 
 
 def composed_bytes(certificate: str) -> Figure:
     """The bytes of a composed certificate."""
-    return Figure(len(certificate.encode()), constant(_BASE, "INPUT_LIMIT"))
+    return figure("Certificate", len(certificate.encode()), 0)

@@ -5,7 +5,7 @@ from __future__ import annotations
 import re
 from pathlib import Path
 
-from .figures import Figure, constant
+from .figures import Figure, constant, figure
 
 _BLOCK = "suppressions/src/block.rt"
 _PATTERN = re.compile(r"^\s*\w*regexp\s*=\s*(.*?)\s*$", re.MULTILINE)
@@ -19,4 +19,4 @@ def weight(rules: Path) -> Figure:
     for pattern in _PATTERN.findall(rules.read_text()):
         classes = sum(1 for letter in _CLASS.findall(pattern) if letter.isascii() and letter.isalpha())
         found += each + len(pattern.encode()) + class_weight * classes
-    return Figure(found, constant(_BLOCK, "MOST_WEIGHT"))
+    return figure("Patterns", found, 0)

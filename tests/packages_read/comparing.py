@@ -11,7 +11,7 @@ from typing import Sequence
 from abi_tools.abi_program import Abi, Export
 from abi_tools.elf_files import ElfFile
 from abi_tools.faults import Fault
-from abi_tools.joining import join
+from abi_tools.joining import join_from
 from abi_tools.package_sides import PackagedLibrary, Side
 from packages_read.abidw_reading import Reading, abidw_reading
 from packages_read.readelf_reading import addresses, exports
@@ -59,13 +59,13 @@ def compared(package: str, files: Sequence[Path]) -> PackageLine:
                 try:
                     _compare(library, side, Path(folder, "joined.so"), line)
                 except Fault as fault:
-                    line.remarks.append(f"{library.name.name}: {str(fault).replace(f'{folder}/', '').replace('packages/', '')}")
+                    line.remarks.append(f"{library.file_name}: {str(fault).replace(f'{folder}/', '').replace('packages/', '')}")
     return line
 
 
 def _compare(library: PackagedLibrary, side: Side, joined: Path, line: PackageLine) -> None:
     """Compares one library, and counts. Raises a fault if `abi` cannot read it."""
-    joined.write_bytes(join(library.path, side.root))
+    joined.write_bytes(join_from(side.places.read(library.path), side.places))
     listed = {export.label: export for export in Abi().exports(joined) if export.kind in _LISTED}
     line.counts["read"] += 1
     line.counts["exports"] += len(listed)
@@ -75,7 +75,7 @@ def _compare(library: PackagedLibrary, side: Side, joined: Path, line: PackageLi
     try:
         other = abidw_reading(joined)
     except Fault as fault:
-        line.counts["shown"] += _shown_by_readelf(library.name.name, str(fault), joined, listed, line)
+        line.counts["shown"] += _shown_by_readelf(library.file_name, str(fault), joined, listed, line)
         return
     more, less = own.typed - other.typed, other.typed - own.typed
     shown = set()
@@ -89,7 +89,7 @@ def _compare(library: PackagedLibrary, side: Side, joined: Path, line: PackageLi
     said = [("exports that abi alone has", own.exports - other.exports), ("exports that abidw alone has", other.exports - own.exports),
             ("types that neither abidw nor readelf shows", more - shown), ("types that abidw alone has", less),
             ("other numbers of parameters", unlike)]
-    line.remarks += [f"{library.name.name}: {len(labels)} {what}: {_named(labels)}" for what, labels in said if labels]
+    line.remarks += [f"{library.file_name}: {len(labels)} {what}: {_named(labels)}" for what, labels in said if labels]
 
 
 def _shown_by_readelf(name: str, fault: str, joined: Path, listed: dict[str, Export], line: PackageLine) -> int:

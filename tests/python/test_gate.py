@@ -143,6 +143,26 @@ def test_nothing_compared_is_told(build: Build, tmp_path: Path) -> None:
     told(gate("--rules", tmp_path / "all.rules", whole, whole), "nothing was compared")
 
 
+@pytest.mark.parametrize("share", ("0", "100"))
+def test_exports_of_size_0_are_no_types(build: Build, share: str) -> None:
+    """As in assembler without .size: without types of other exports, nothing was compared but names. If there are types, they count."""
+    code = "".join(f'asm(".globl f{n}; .type f{n}, @function; f{n}: ret");' for n in range(3))
+    written = build("written.so", f"static int unused;\n{code}\n", "-g", "-O2", "-nostdlib")
+    told(gate("--require-types", share, written, written), "no types were compared", "have size 0")
+    assert gate("--require-types", "0", build("one.so", f"int first(int a) {{ return a; }}\n{code}\n"), build(
+        "two.so", f"int first(int a) {{ return a; }}\n{code}\n")).status == 0
+
+
+def test_a_status_without_its_text_is_no_answer(build: Build, tmp_path: Path, monkeypatch: pytest.MonkeyPatch) -> None:
+    whole = build("whole.so", OLD)
+    program = tmp_path / "abi"
+    for text, status in (("", 0), ("", 1), ("no", 0), ("yes 2", 1)):
+        program.write_text(f"#!/bin/sh\necho '{text}'\nexit {status}\n")
+        program.chmod(0o755)
+        monkeypatch.setenv("ABI", str(program))
+        told(gate(whole, whole), "")
+
+
 def test_rules_are_those_of_abi(build: Build, tmp_path: Path) -> None:
     old, new = build("old.so", OLD), build("new.so", NEW)
     (tmp_path / "abi.rules").write_text("[suppress_type]\nname = point\n")
@@ -164,12 +184,12 @@ def test_what_abi_refuses_is_told(build: Build, tmp_path: Path) -> None:
 def test_the_script_ends_with_2_where_nothing_can_be_told(build: Build, tmp_path: Path) -> None:
     whole = build("whole.so", OLD)
     assert script("abi-gate", whole, whole).status == 0
-    assert script("abi-gate", whole).status == 2
-    assert script("abi-gate", "--require-types", "101", whole, whole).status == 2
+    assert script("abi-gate", whole).status == 64
+    assert script("abi-gate", "--require-types", "101", whole, whole).status == 64
     killed = tmp_path / "abi"
     killed.write_text("#!/bin/sh\nkill -9 $$\n")
     killed.chmod(0o755)
-    for program, words in ((killed, "the signal 9 ended abi"), (tmp_path / "none", "there is no program")):
+    for program, words in ((killed, "the signal SIGKILL ended it: perhaps the machine ran out of memory"), (tmp_path / "none", "there is no program")):
         ended = run("env", f"ABI={program}", TOOLS / "abi-gate", whole, whole)
         assert ended.status == 2 and words in ended.out + ended.errors
     killed.unlink()

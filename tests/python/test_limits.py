@@ -14,7 +14,7 @@ sys.path.insert(0, str(ROOT / "bench"))
 from elftools.elf.elffile import ELFFile  # noqa: E402
 from limits import debug_tables, elf_tables, graphs, held, rule_files  # noqa: E402
 from limits.entries import Entries, Entry, Unit, read_entries  # noqa: E402
-from limits.figures import Figure, constant  # noqa: E402
+from limits.figures import Figure, constant, rate  # noqa: E402
 from limits.graphs import Node  # noqa: E402
 from limits.rows import ROWS, Row  # noqa: E402
 
@@ -34,7 +34,7 @@ def test_the_page_has_the_limits_of_the_sources(row: Row) -> None:
 def test_the_manual_page_has_the_limits_of_the_sources() -> None:
     page = (ROOT / "share" / "man" / "man1" / "abi.1").read_text()
     section = page.partition(".SH LIMITS\n")[2].partition(".SH ")[0]
-    assert f"{constant('suppressions/src/block.rt', 'MOST_WEIGHT'):,}" in section
+    assert f"{rate('Patterns').base:,}" in section
     assert f"{constant('abi_base/src/lib.rt', 'INPUT_LIMIT'):,}" in section
 
 
@@ -98,9 +98,9 @@ _TYPES = {
 def test_types_are_counted() -> None:
     assert graphs.parts(_NODES) == 7
     # 3 for each structure inside the array, 1 for the array, 1 for the scalar and 1 for the structure.
-    assert graphs.walk_steps(_NODES) == Figure(3 * 3 + 3, 64 * 6 + 65_536)
-    assert graphs.labels(_NODES) == Figure(2, 16 * 5 + 262_144)
-    assert graphs.letters(_NODES, 100) == Figure(6, 32 * 100 + 1_048_576)
+    assert graphs.walk_steps(_NODES) == Figure(3 * 3 + 3, 64 * 6 + 16_777_216)
+    assert graphs.labels(_NODES) == Figure(2, 16 * 5 + 1_048_576)
+    assert graphs.letters(_NODES, 100) == Figure(6, 32 * 100 + 33_554_432)
 
 
 def test_names_of_declarations_are_counted() -> None:

@@ -63,7 +63,7 @@ def test_pages_of_tools_name_all_options_and_statuses(name: str) -> None:
     printed = done(TOOLS / name, "--help")
     options = set(re.findall(r"^  (?:-h, )?(--[a-z-]+)", printed, re.MULTILINE))
     statuses = set(re.findall(r"^  (\d+)  |(?<=[:;] )(\d+) ", printed[printed.index("Exit status"):], re.MULTILINE))
-    assert "--help" in options and len(statuses) == 3
+    assert "--help" in options and len(statuses) in (3, 4)
     assert all(re.search(rf"^\\fB(-h, )?{option}\b", text, re.MULTILINE) for option in options)
     assert all(f"\n\\fB{first or second}\\fR\n" in text for first, second in statuses)
 
@@ -101,18 +101,20 @@ def test_completions_are_scripts(program: str) -> None:
 
 def test_install_puts_everything_in_place(tmp_path: Path) -> None:
     """A stand-in for the toolchain says that everything is proved, and builds programs that end with status 64."""
-    for name in ("install.sh", "crates.txt", "tools", "share"):
+    for name in ("install.sh", "crates.txt", "HANDLES", "tools", "share"):
         done("cp", "-r", ROOT / name, tmp_path / name)
-    for crate in ("abi_cli", "abi_json"):
+    for crate in re.findall(r"^(\w+):", (ROOT / "crates.txt").read_text(), re.MULTILINE):
         (tmp_path / "crates" / crate).mkdir(parents=True)
     stand_in = tmp_path / "bin" / "rt"
     stand_in.parent.mkdir()
     stand_in.write_text("""#!/bin/sh
-crate=$(basename "$PWD")
-case $1 in
-all) echo "== $crate"; echo "== summary"; echo "$crate: ${RESULT:-ok}"; [ -z "$RESULT" ] ;;
-run) mkdir -p out; printf '#!/bin/sh\\necho %s\\nexit 64\\n' "$crate" >"out/$crate"; chmod +x "out/$crate"; exit 64 ;;
-esac
+for crate in abi_cli abi_json; do
+    echo "== $crate"
+    [ -z "$RESULT" ] || { echo "rt: $crate failed"; exit 1; }
+    mkdir -p "crates/$crate/out"
+    printf '#!/bin/sh\\necho %s\\nexit 64\\n' "$crate" >"crates/$crate/out/$crate"
+    chmod +x "crates/$crate/out/$crate"
+done
 """)
     stand_in.chmod(0o755)
     path = f"{stand_in.parent}:{os.environ['PATH']}"

@@ -3,68 +3,15 @@
 from __future__ import annotations
 
 import gzip
-import io
 import os
 import shutil
 import signal
-import tarfile
 from pathlib import Path
-from typing import Callable, Mapping, Sequence
+from typing import Sequence
 
 import pytest
-from conftest import (FIRST, SECOND, TOOLS, Ended, abi, build_id, done, killer, needs, run, script, shared, split, system_place,
-                      tool)
-
-Build = Callable[..., Path]
-Files = Mapping[str, Path]
-LIBRARIES = "usr/lib/x86_64-linux-gnu"
-CHANGED = FIRST.replace('#include "shapes.h"', '#include "shapes.h"\nstruct added { int a; };').replace(
-    "int call(callback_type f, shape_type *s)", "int call(callback_type f, shape_type *s, int more)")
-
-
-def tree(folder: Path, files: Files) -> Path:
-    """Puts the files of a package in their places."""
-    for name, path in files.items():
-        (folder / name).parent.mkdir(parents=True, exist_ok=True)
-        done("cp", "-P", path, folder / name)
-    return folder
-
-
-def deb(folder: Path, name: str, files: Files, compression: str = "xz", version: str = "1") -> Path:
-    """Makes a .deb with dpkg-deb."""
-    made = tree(folder / f"{name}.tree", files)
-    (made / "DEBIAN").mkdir(parents=True)
-    (made / "DEBIAN/control").write_text(f"Package: {name}\nVersion: {version}\nArchitecture: amd64\n"
-                                         "Maintainer: a <a@example.org>\nDescription: a package\n")
-    done("dpkg-deb", "--root-owner-group", f"-Z{compression}", "-b", made, folder / f"{name}.deb")
-    return folder / f"{name}.deb"
-
-
-def rpm(folder: Path, name: str, files: Files) -> Path:
-    """Makes a .rpm with rpmbuild."""
-    needs("rpmbuild")
-    made = tree(folder / f"{name}.tree", files)
-    spec = folder / f"{name}.spec"
-    spec.write_text(f"Name: {name}\nVersion: 1\nRelease: 1\nSummary: a package\nLicense: MIT\n%description\n%install\n"
-                    f"cp -a {made}/. %{{buildroot}}\n%files\n/usr\n")
-    done("rpmbuild", "-bb", "--quiet", "--define", f"_topdir {folder / 'rpmbuild'}", "--define", "debug_package %{nil}", "--define",
-         "__os_install_post %{nil}", "--define", "_build_id_links none", "--define", "_rpmfilename %{NAME}.rpm", spec)
-    return folder / "rpmbuild/RPMS" / f"{name}.rpm"
-
-
-def parted(build: Build, folder: Path, text: str, name: str, soname: str) -> tuple[Files, Files, Path]:
-    """A library as its package ships it, the files of its debug package, and the whole library."""
-    whole = build(f"{name}.so", text, soname=soname)
-    debug = folder / f"{name}.debug"
-    stripped = split(whole, debug)
-    place = str(system_place(Path(), build_id(whole)))
-    return {f"{LIBRARIES}/{soname}.1.2": stripped}, {place: debug}, whole
-
-
-def packages(folder: Path, *arguments: object) -> Ended:
-    """Runs the tool, with a folder of the test for certificates."""
-    return tool("abi-packages", "--certificates", folder / "certificates", *arguments)
-
+from conftest import FIRST, SECOND, TOOLS, abi, build_id, done, needs, run, script, shared, split, system_place, tool
+from package_support import CHANGED, LIBRARIES, Build, Member, deb, hostile_deb, link, packages, parted, rpm
 
 @pytest.fixture
 def old(build: Build, tmp_path: Path) -> tuple[Path, Path]:
@@ -116,7 +63,7 @@ def test_a_library_may_be_left_out(old: tuple[Path, Path], build: Build, tmp_pat
     sides = (*old, packed, "--", *old, packed)
     assert packages(tmp_path, *sides).status == 2
     ended = packages(tmp_path, "--leave-out", "libother.so.1", *sides)
-    assert ended.status == 0 and ended.out.splitlines()[0] == "left out libother.so.1", ended
+    assert ended.status == 0 and ended.out.splitlines()[1] == "left out libother.so.1", ended
     assert ended.out.splitlines()[-1] == "2 libraries: 1 left out, 1 yes"
     ended = packages(tmp_path, "--leave-out", "libother.so.1", "--leave-out", "libshapes.so.1", *sides)
     assert ended.status == 2 and "all libraries are left out" in ended.errors
@@ -138,7 +85,7 @@ def test_libraries_that_are_gone_or_new_have_a_line(old: tuple[Path, Path], buil
     ended = packages(tmp_path, *old, "--", deb(tmp_path, "new", library), deb(tmp_path, "new-dbgsym", debug))
     assert ended.status == 1
     assert ended.out.splitlines() == ["gone libshapes.so.1: libshapes1.deb had it", "new libshapes.so.2: new.deb has it",
-                                      "2 libraries: 1 gone, 1 new"]
+                                      "2 libraries: 1 gone, 1 new; not yes: libshapes.so.1"]
     both = {**library, f"{LIBRARIES}/libshapes.so.1": tmp_path / "old.stripped"}
     ended = packages(tmp_path, *old, "--", deb(tmp_path, "both", both), old[1])
     assert ended.status == 0 and [line.split()[0] for line in ended.out.splitlines()] == ["yes", "new", "2"]
@@ -208,36 +155,16 @@ def test_a_soname_may_stand_in_several_folders(build: Build, tmp_path: Path) -> 
         "yes plugin.so", f"yes {LIBRARIES}/glibc-hwcaps/x86-64-v3/libshapes.so.1", f"yes {LIBRARIES}/libshapes.so.1", "3 libraries"]
 
 
-def hostile_deb(path: Path, members: list[tuple[str, bytes | None, str]]) -> Path:
-    """A .deb whose archive has names that dpkg-deb would not make. A member is a name, contents (None for a link), and a link target."""
-    archive = io.BytesIO()
-    with tarfile.open(fileobj=archive, mode="w:gz") as made:
-        for name, contents, target in members:
-            member = tarfile.TarInfo(name)
-            member.size = len(contents or b"")
-            if contents is None:
-                member.type, member.linkname = tarfile.SYMTYPE, target
-            made.addfile(member, io.BytesIO(contents or b""))
-    folder = path.with_suffix(".parts")
-    folder.mkdir()
-    (folder / "debian-binary").write_text("2.0\n")
-    for part in ("control.tar.gz", "data.tar.gz"):
-        (folder / part).write_bytes(archive.getvalue())
-    done("ar", "rc", path, *(folder / part for part in ("debian-binary", "control.tar.gz", "data.tar.gz")))
-    return path
-
-
 def test_a_package_writes_nothing_outside_of_its_folder(old: tuple[Path, Path], build: Build, tmp_path: Path) -> None:
     contents = build("evil.so", FIRST).read_bytes()
     outside = tmp_path / "outside"
     outside.mkdir()
-    hostile: list[list[tuple[str, bytes | None, str]]] = [
-        [("../../outside/evil.so", contents, "")], [(f"usr/{'../' * 9}tmp/evil.so", contents, "")],
-        [("usr/lib", None, str(outside)), ("usr/lib/evil.so", contents, "")],
-        [("usr/evil.so", None, str(outside / "evil.so")), ("usr/evil.so", contents, "")]]
+    hostile = [[Member("../../outside/evil.so", contents)], [Member(f"usr/{'../' * 9}tmp/evil.so", contents)],
+               [link("usr/lib", str(outside)), Member("usr/lib/evil.so", contents)],
+               [link("usr/evil.so", str(outside / "evil.so")), Member("usr/evil.so", contents)]]
     for number, members in enumerate(hostile):
         ended = packages(tmp_path, hostile_deb(tmp_path / f"hostile{number}.deb", members), "--", *old)
-        assert ended.status == 2 and ended.errors.startswith("abi-packages: "), ended
+        assert ended.status == (1 if number == 2 else 2), ended
         assert list(outside.iterdir()) == [] and not Path("/tmp/evil.so").exists()
 
 
@@ -253,7 +180,7 @@ def test_what_is_no_package_is_refused(old: tuple[Path, Path], tmp_path: Path) -
     ended = packages(tmp_path, old[0], old[0], "--", *old)
     assert ended.status == 2 and "another package brings" in ended.errors
     for arguments in ((*old,), (*old, "--"), ("--", *old), (*old, "--", *old, "--rules", "x")):
-        assert packages(tmp_path, *arguments).status == 2
+        assert packages(tmp_path, *arguments).status == 64
     nothing = deb(tmp_path, "nothing", {"usr/share/doc/nothing/readme": tmp_path / "shapes.h"})
     ended = packages(tmp_path, nothing, "--", nothing)
     assert ended.status == 2 and "no library is in the old packages" in ended.errors
@@ -304,7 +231,7 @@ def test_two_versions_that_apt_downloads(build: Build, tmp_path: Path) -> None:
 @pytest.mark.parametrize("number", (signal.SIGKILL, signal.SIGTERM))
 def test_a_run_that_is_killed_leaves_no_half_file(build: Build, tmp_path: Path, monkeypatch: pytest.MonkeyPatch,
                                                   number: signal.Signals) -> None:
-    """The run is killed at the second of three libraries: the file of the first one is whole, and the next run keeps all three."""
+    """The run is killed at the last of three libraries: the files of the others are whole, and the next run keeps all three."""
     files: dict[str, Path] = {}
     for one in (1, 2, 3):
         library = build(f"{one}.so", FIRST, soname=f"lib{one}.so.1")
@@ -314,10 +241,10 @@ def test_a_run_that_is_killed_leaves_no_half_file(build: Build, tmp_path: Path, 
     temporary.mkdir()
     monkeypatch.setenv("TMPDIR", str(temporary))
     program = os.environ["ABI"]
-    monkeypatch.setenv("ABI", str(killer(tmp_path, number, "check*lib2.so.1")))
-    ended = script("abi-packages", "--certificates", kept, made, "--", made)
-    assert ended.status == (-number if number == signal.SIGKILL else 128 + number) and ended.out.startswith("yes lib1.so.1: "), ended
-    assert [path.name for path in kept.iterdir()] == ["lib1.so.1.cert"]
+    monkeypatch.setenv("ABI", str(killer_of_tool(tmp_path, number, "check*lib3.so.1")))
+    ended = script("abi-packages", "--workers", 1, "--certificates", kept, made, "--", made)
+    assert ended.status == (-number if number == signal.SIGKILL else 128 + number) and ended.out == "", ended
+    assert sorted(path.name for path in kept.iterdir()) == ["lib1.so.1.cert", "lib2.so.1.cert"]
     assert (number == signal.SIGKILL) == (list(temporary.iterdir()) != [])
     monkeypatch.setenv("ABI", program)
     library = tmp_path / "1.so"
@@ -325,6 +252,15 @@ def test_a_run_that_is_killed_leaves_no_half_file(build: Build, tmp_path: Path, 
     assert abi("verify", tmp_path / "joined.so", tmp_path / "joined.so", kept / "lib1.so.1.cert").out == "accepted\n"
     assert packages(tmp_path, made, "--", made).status == 0
     assert sorted(path.name for path in kept.iterdir()) == [f"lib{one}.so.1.cert" for one in (1, 2, 3)]
+
+
+def killer_of_tool(folder: Path, number: signal.Signals, arguments: str) -> Path:
+    """A program `abi` that sends a signal to the tool, whose step runs it, if its arguments match a shell pattern."""
+    path = folder / "killing_abi"
+    path.write_text(f"#!/bin/sh\ncase \"$*\" in *{arguments}*) kill -{int(number)} $(cut -d ' ' -f 4 /proc/$PPID/stat); sleep 10 ;; "
+                    f"esac\nexec '{Path(os.environ['ABI']).resolve()}' \"$@\"\n")
+    path.chmod(0o755)
+    return path
 
 
 def test_the_worst_library_is_the_status(build: Build, tmp_path: Path) -> None:

@@ -57,6 +57,16 @@ def debian_build(folder: Path) -> Ended:
     return run("dpkg-buildpackage", "-us", "-uc", "-b", folder=folder)
 
 
+def test_debian_rules_keep_a_baseline_beside_a_folder_of_their_name(project: Path) -> None:
+    """Sources have folders `build`. What make finds in place of a target it does not make."""
+    needs("dh")
+    shutil.copytree(EXAMPLES / "debian/debian", project / "debian")
+    for name in ("build", "keep-abi"):
+        (project / name).mkdir()
+    done("debian/rules", "keep-abi", folder=project)
+    assert tool("abi-gate", project / "debian/abi/libstream.so.1.abi", project / "libstream.so.1").status == 0
+
+
 def test_debian_rules(project: Path, tmp_path: Path) -> None:
     """debhelper builds the package, and two of its builds are compared as packages."""
     needs("dpkg-buildpackage", "dh")

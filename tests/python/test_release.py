@@ -13,13 +13,11 @@ import socket
 import struct
 import subprocess
 import sys
-import time
 import zlib
 from collections import deque
 from pathlib import Path
-from typing import Any, Callable, Iterator, Mapping
+from typing import Any, Callable, Iterator
 
-import jsonschema
 import pytest
 from abi_release.clusters import LocalChoice
 from abi_release.judging import Part, Settings
@@ -33,104 +31,8 @@ from abi_release.stored_files import Store
 from abi_tools.package_sides import Side
 from conftest import ROOT, TOOLS, Ended, build_id, done, run, split, system_place
 from distributed import KilledWorker
-
-Json = dict[str, Any]
-TOOL = TOOLS / "abi-release"
-SCHEMA = json.loads((ROOT / "docs/release.schema.json").read_text())
-LIBRARIES = "usr/lib/x86_64-linux-gnu"
-SHAPES = "struct point {{ {type} x, y; }};\nint area(struct point *p) {{ return p->x * p->y + {number}; }}\n"
-
-
-def compiled(folder: Path, name: str, text: str, *options: str) -> Path:
-    """Compiles a library, or a program, from C source."""
-    source = folder / f"{name}.c"
-    source.write_text(text)
-    done("gcc", "-O1", "-g", "-Wl,--build-id", "-o", folder / name, source, *options, folder=folder)
-    return folder / name
-
-
-def library(folder: Path, name: str, kind: str = "int", number: int = 0) -> Path:
-    """A library with one export, whose structure has members of this type."""
-    return compiled(folder, name, SHAPES.format(type=kind, number=number), "-shared", "-fPIC", f"-Wl,-soname,{name}")
-
-
-def deb(folder: Path, name: str, files: Mapping[str, Path], version: str = "1", depends: str = "", architecture: str = "amd64",
-        packing: str = "gzip") -> Path:
-    """Makes a .deb under the name that mirrors give it."""
-    folder.mkdir(parents=True, exist_ok=True)
-    tree = folder / f".{name}"
-    for place, path in files.items():
-        (tree / place).parent.mkdir(parents=True, exist_ok=True)
-        shutil.copy(path, tree / place)
-    (tree / "DEBIAN").mkdir(parents=True)
-    more = f"Depends: {depends}\n" if depends else ""
-    (tree / "DEBIAN/control").write_text(f"Package: {name}\nVersion: {version}\nArchitecture: {architecture}\n{more}"
-                                         "Maintainer: a <a@example.org>\nDescription: a package\n")
-    made = folder / f"{name}_{version}_{architecture}.deb"
-    done("dpkg-deb", "--root-owner-group", f"-Z{packing}", "-b", tree, made)
-    shutil.rmtree(tree)
-    return made
-
-
-def packaged(folder: Path, path: Path, version: str = "1", package: str = "") -> Path:
-    """Makes the package of a library; without a name of its own it is named after the library."""
-    return deb(folder, package or path.name.partition(".so")[0], {f"{LIBRARIES}/{path.name}": path}, version)
-
-
-def release(folder: Path, *options: object, workers: int = 1, out: str = "out", wrapper: Path | None = None,
-            before: tuple[object, ...] = ()) -> Ended:
-    """Runs the tool on the folders `old` and `new`."""
-    command = [*before, TOOL, "old", "new", "--out", out, "--workers", workers, "--memory", 1000, *options]
-    environment = {**os.environ, "ABI": str(wrapper or os.environ["ABI"])}
-    ended = subprocess.run([str(word) for word in command], capture_output=True, text=True, check=False, cwd=folder, env=environment)
-    return Ended(ended.returncode, ended.stdout, ended.stderr)
-
-
-def table(folder: Path, out: str = "out") -> Json:
-    """The table of a run, which must follow the schema."""
-    found: Json = json.loads((folder / out / "release.json").read_text())
-    jsonschema.validate(found, SCHEMA)
-    return found
-
-
-def lines(folder: Path, out: str = "out") -> dict[str, Json]:
-    """The lines of a run, by package and library."""
-    return {f"{line['package']} {line['library'] or '-'}": line for line in table(folder, out)["lines"]}
-
-
-def answers(folder: Path, out: str = "out") -> dict[str, str]:
-    """The answers of a run."""
-    return {name: line["answer"] for name, line in lines(folder, out).items()}
-
-
-def judged(ended: Ended) -> tuple[int, int]:
-    """How many pairs of libraries a run judged, and how many it kept."""
-    words = next(line for line in ended.errors.splitlines() if "pairs of libraries judged" in line).split()
-    return int(words[words.index("pairs") - 1]), int(words[words.index("kept;") - 1])
-
-
-def unmeasured(found: Json) -> list[Json]:
-    """The lines of a table, without their measurements."""
-    return [{key: value for key, value in line.items() if key != "measured"} for line in found["lines"]]
-
-
-def wrapper_of(folder: Path, text: str) -> Path:
-    """A program `abi` that first runs a text in `sh`, in which `$worker` is the process of the worker."""
-    path = folder / "abi"
-    path.write_text(f"#!/bin/sh\nparent=$(cut -d ' ' -f 4 /proc/$PPID/stat)\n"
-                    f"worker=$(cut -d ' ' -f 4 /proc/$parent/stat)\n{text}\nexec '{Path(os.environ['ABI']).resolve()}' \"$@\"\n")
-    path.chmod(0o755)
-    return path
-
-
-def three(folder: Path) -> None:
-    """Two releases with three libraries. The second library breaks."""
-    for side, kinds in (("old", ("int", "int", "int")), ("new", ("int", "long", "int"))):
-        for number, kind in enumerate(kinds):
-            packaged(folder / side, library(folder, f"lib{number}.so.1", kind, number))
-
-
-THREE = {"lib0 lib0.so.1": "yes", "lib1 lib1.so.1": "no", "lib2 lib2.so.1": "yes"}
+from release_support import (LIBRARIES, THREE, answers, bundle, deb, judged, library, lines, packaged, release, results, started, stop,
+                             table, three, tree, unmeasured, wait_for, wrapper_of)
 
 
 def test_a_release_and_the_next(tmp_path: Path) -> None:
@@ -158,9 +60,11 @@ def test_a_release_and_the_next(tmp_path: Path) -> None:
         deb(tmp_path / side, "metapackage", {}, depends="lib1", architecture="all")
     ended = release(tmp_path, workers=2)
     assert ended.status == 1, ended
-    assert answers(tmp_path) == {**THREE, "libdebug libdebug.so.1": "yes", "libgone libgone.so.1": "gone", "libnew libnew.so.1": "new",
-                                 "libmoved1 -> libmoved1t64 libmoved.so.1": "yes", "random -": "not judged"}
+    assert answers(tmp_path) == {**THREE, "libdebug libdebug.so.1": "yes", "libgone libgone.so.1": "cannot tell", "libnew libnew.so.1": "new",
+                                 "libmoved1 -> libmoved1t64 libmoved.so.1": "yes", "random -": "cannot tell"}
     found = lines(tmp_path)
+    assert found["libgone libgone.so.1"]["reason"] == (
+        "its package has lost it, and of the new packages these could not be read: random_1_amd64.deb")
     assert found["random -"]["tries"] == 2 and "neither a .deb nor a .rpm" in found["random -"]["reason"]
     assert found["lib1 lib1.so.1"]["breaks"] == {"L2": 2, "L7": 1}
     assert found["lib1 lib1.so.1"]["hit"] == [
@@ -175,7 +79,7 @@ def test_a_release_and_the_next(tmp_path: Path) -> None:
     page = (tmp_path / "out/index.html").read_text()
     assert page.count("<tr class=") == len(found) and 'id="filter"' in page and "http" not in page
     text = (tmp_path / "out/table.txt").read_text()
-    assert text.splitlines()[-1] == ended.out.strip() == "8 lines: 1 gone, 1 new, 1 no, 1 not judged, 4 yes"
+    assert text.splitlines()[-1] == ended.out.strip() == "8 lines: 2 cannot tell, 1 new, 1 no, 4 yes"
 
     before = {path: path.stat().st_mtime_ns for path in (tmp_path / "out").rglob("*") if path.parent.name not in ("out", "")}
     again = release(tmp_path)
@@ -185,6 +89,9 @@ def test_a_release_and_the_next(tmp_path: Path) -> None:
     assert (tmp_path / "out/table.txt").read_text() == text
     packaged(tmp_path / "new", library(tmp_path, "lib0.so.1", "long"), version="2")
     assert judged(release(tmp_path)) == (1, 4) and answers(tmp_path)["lib0 lib0.so.1"] == "no"
+    # all new packages can be read: the library is gone
+    (tmp_path / "new/random_1_amd64.deb").unlink()
+    assert judged(release(tmp_path)) == (0, 5) and answers(tmp_path)["libgone libgone.so.1"] == "gone"
 
 
 def test_the_same_table_on_any_number_of_workers(tmp_path: Path) -> None:
@@ -201,28 +108,17 @@ def test_the_same_table_on_any_number_of_workers(tmp_path: Path) -> None:
     assert found[0]["digest"] == found[1]["digest"] == found[2]["digest"]
 
 
-def bundle(folder: Path, broken: int = 2, count: int = 5) -> dict[str, str]:
-    """A package of several libraries, and its answers. One library breaks, one is gone, one is new."""
-    for side in ("old", "new"):
-        files = [library(folder, f"libpart{number}.so.1", "long" if side == "new" and number == broken else "int", number)
-                 for number in range(count)]
-        files.append(library(folder, f"lib{side}.so.1"))
-        deb(folder / side, "bundle", {f"{LIBRARIES}/{path.name}": path for path in files})
-    answers_of = {f"bundle libpart{number}.so.1": "no" if number == broken else "yes" for number in range(count)}
-    return {**answers_of, "bundle libold.so.1": "gone", "bundle libnew.so.1": "new"}
-
-
 def test_each_library_of_a_package_is_a_task(tmp_path: Path) -> None:
     """On any number of workers, also if one library kills a worker each time, and in a later run that goes on."""
     wanted = bundle(tmp_path)
     assert release(tmp_path, workers=1).status == 1 and answers(tmp_path) == wanted
     # a worker waits for another one to begin a library of the same package
     wait = f"echo $worker >>{tmp_path}/workers; while [ $(sort -u {tmp_path}/workers | wc -l) -lt 2 ]; do sleep 0.1; done"
-    ended = release(tmp_path, workers=2, out="two", wrapper=wrapper_of(tmp_path, f"case \"$*\" in *libpart*) {wait} ;; esac"))
+    ended = release(tmp_path, workers=2, out="two", wrapper=wrapper_of(tmp_path, f"case \"$judged\" in *libpart*) {wait} ;; esac"))
     assert ended.status == 1 and unmeasured(table(tmp_path)) == unmeasured(table(tmp_path, "two")), ended
-    wrapper = wrapper_of(tmp_path, f"[ -e {tmp_path}/go ] || case \"$*\" in *libpart1.so.1*) kill -9 $worker; sleep 10 ;; esac")
+    wrapper = wrapper_of(tmp_path, f"[ -e {tmp_path}/go ] || case \"$judged\" in *libpart1.so.1*) kill -9 $worker; sleep 10 ;; esac")
     ended = release(tmp_path, out="killed", wrapper=wrapper)
-    assert ended.status == 1 and answers(tmp_path, "killed") == {**wanted, "bundle libpart1.so.1": "not judged"}, ended
+    assert ended.status == 1 and answers(tmp_path, "killed") == {**wanted, "bundle libpart1.so.1": "cannot tell"}, ended
     assert lines(tmp_path, "killed")["bundle libpart1.so.1"]["reason"] == "the worker died over it"
     (tmp_path / "go").touch()
     ended = release(tmp_path, out="killed", wrapper=wrapper)
@@ -299,9 +195,9 @@ def test_a_worker_that_is_killed_loses_nothing(tmp_path: Path) -> None:
     wrapper = wrapper_of(tmp_path, f"mkdir {tmp_path}/killed 2>/dev/null && kill -9 $worker && sleep 10")
     ended = release(tmp_path, wrapper=wrapper)
     assert ended.status == 1 and (tmp_path / "killed").is_dir() and answers(tmp_path) == THREE, ended
-    wrapper = wrapper_of(tmp_path, f"case \"$*\" in *lib1.so.1*) echo >>{tmp_path}/deaths; kill -9 $worker; sleep 10 ;; esac")
+    wrapper = wrapper_of(tmp_path, f"case \"$judged\" in *lib1.so.1*) echo >>{tmp_path}/deaths; kill -9 $worker; sleep 10 ;; esac")
     ended = release(tmp_path, wrapper=wrapper, out="other")
-    assert ended.status == 2 and answers(tmp_path, "other") == {**THREE, "lib1 lib1.so.1": "not judged"}, ended
+    assert ended.status == 2 and answers(tmp_path, "other") == {**THREE, "lib1 lib1.so.1": "cannot tell"}, ended
     assert lines(tmp_path, "other")["lib1 lib1.so.1"]["reason"] == "the worker died over it"
     # twice, and once more if Dask itself gives the task to the next worker before it reports the death
     assert len((tmp_path / "deaths").read_text()) in (2, 3)
@@ -312,14 +208,9 @@ def test_a_worker_that_is_killed_loses_nothing(tmp_path: Path) -> None:
 def test_a_package_that_waited_at_a_worker_that_died_is_not_blamed(tmp_path: Path) -> None:
     """Dask queues the first packages at a worker before the worker begins them."""
     three(tmp_path)
-    wrapper = wrapper_of(tmp_path, "case \"$*\" in *lib0.so.1*) kill -9 $worker; sleep 10 ;; esac")
+    wrapper = wrapper_of(tmp_path, "case \"$judged\" in *lib0.so.1*) kill -9 $worker; sleep 10 ;; esac")
     ended = release(tmp_path, "--tries", 1, wrapper=wrapper)
-    assert ended.status == 1 and answers(tmp_path) == {**THREE, "lib0 lib0.so.1": "not judged"}, ended
-
-
-def tree(root: Path) -> dict[str, bytes]:
-    """The files below a folder."""
-    return {str(path.relative_to(root)): path.read_bytes() for path in root.rglob("*") if path.is_file()}
+    assert ended.status == 1 and answers(tmp_path) == {**THREE, "lib0 lib0.so.1": "cannot tell"}, ended
 
 
 @pytest.mark.parametrize("packing", ["gzip", "xz", "zstd", "none"])
@@ -362,18 +253,23 @@ def test_a_damaged_package_is_no_small_one(tmp_path: Path) -> None:
     assert SmallPackage.read(path) is None
 
 
+def settings_of(folder: Path, store: Store) -> Settings:
+    """The settings of a run without packages."""
+    return Settings("run", str(folder), str(folder), str(store.folder), None, "", 0.0, Limits(100, 10, 100, 100))
+
+
 def test_a_batch_ends_in_time_and_what_is_left_is_done_then(tmp_path: Path, monkeypatch: pytest.MonkeyPatch) -> None:
     """The first task of a batch is always done, however long it takes, and no result is lost."""
     store = Store(tmp_path / "out")
     os.close(store.open())
-    settings = Settings(str(tmp_path), str(tmp_path), str(store.folder), None, "", 0.0, Limits(100, 10))
+    settings = settings_of(tmp_path, store)
     parts = [Part(Work(f"lib{number}", ("old.deb",), ("new.deb",))) for number in range(3)]
     given = [Given(part, ()) for part in parts]
     assert len(done_in_turn(given, settings)) == 3
     monkeypatch.setattr("abi_release.scheduling._LONGEST_BATCH", -1.0)
     outcomes = done_in_turn(given, settings)
     assert len(outcomes) == 1
-    turn = _Turn(Run(settings, store, LocalChoice(1, 100, store.folder), tries=1, patience=1), None, iter(()), deque(),
+    turn = _Turn(Run(settings, store, LocalChoice(1, 100), tries=1, patience=1), None, iter(()), deque(),
                  PlainProgress(3, "packages", sys.stderr))
     ended = LostResult()
     monkeypatch.setattr(ended, "result", lambda: outcomes)
@@ -397,37 +293,17 @@ class LostResult:
 def test_a_result_that_is_lost_with_its_worker_is_made_again(tmp_path: Path) -> None:
     store = Store(tmp_path / "out")
     os.close(store.open())
-    settings = Settings(str(tmp_path), str(tmp_path), str(store.folder), None, "", 0.0, Limits(100, 10))
+    settings = settings_of(tmp_path, store)
     part = Part(Work("lib0", ("old.deb",), ("new.deb",)))
-    judging = Run(settings, store, LocalChoice(1, 100, store.folder), tries=2, patience=1)
+    judging = Run(settings, store, LocalChoice(1, 100), tries=2, patience=1)
     turn = _Turn(judging, None, iter(()), deque(), PlainProgress(1, "packages", sys.stderr))
     assert turn._next_after([part], LostResult())[0].again == [part] and not judging.failures  # pylint: disable=protected-access
-
-
-def started(folder: Path, *options: object, wrapper: Path) -> subprocess.Popen[str]:
-    """Starts a run in the background."""
-    command = [TOOL, "old", "new", "--out", "out", *options]
-    return subprocess.Popen([str(word) for word in command], cwd=folder, env={**os.environ, "ABI": str(wrapper)}, text=True,
-                            stdout=subprocess.PIPE, stderr=subprocess.PIPE)
-
-
-def wait_for(holds: Callable[[], bool], seconds: float = 400) -> None:
-    """Waits until a condition holds."""
-    end = time.monotonic() + seconds
-    while not holds():
-        assert time.monotonic() < end, "it does not come"
-        time.sleep(0.05)
-
-
-def results(folder: Path) -> list[Path]:
-    """The results that a run has kept."""
-    return sorted((folder / "out").glob("results/*/*.json"))
 
 
 def test_a_run_that_is_killed_goes_on_when_it_is_started_again(tmp_path: Path) -> None:
     three(tmp_path)
     # the third library waits for the test
-    wrapper = wrapper_of(tmp_path, f"case \"$*\" in *lib2.so.1*) while [ ! -e {tmp_path}/go ]; do sleep 0.1; done ;; esac")
+    wrapper = wrapper_of(tmp_path, f"case \"$judged\" in *lib2.so.1*) while [ ! -e {tmp_path}/go ]; do sleep 0.1; done ;; esac")
     process = started(tmp_path, "--workers", 1, wrapper=wrapper)
     wait_for(lambda: len(results(tmp_path)) == 2)
     ended = release(tmp_path)
@@ -464,18 +340,11 @@ def cluster(tmp_path: Path) -> Iterator[Callable[[], tuple[str, list[subprocess.
         stop(process)
 
 
-def stop(process: subprocess.Popen[bytes]) -> None:
-    """Kills a process and its children."""
-    if process.poll() is None:
-        os.killpg(process.pid, signal.SIGKILL)
-        process.wait()
-
-
 def test_a_scheduler_that_is_killed_and_started_again(tmp_path: Path, cluster: Callable[[], Any]) -> None:
     three(tmp_path)
-    wrapper = wrapper_of(tmp_path, f"case \"$*\" in *lib2.so.1*) while [ ! -e {tmp_path}/go ]; do sleep 0.1; done ;; esac")
+    wrapper = wrapper_of(tmp_path, f"case \"$judged\" in *lib2.so.1*) while [ ! -e {tmp_path}/go ]; do sleep 0.1; done ;; esac")
     address, first = cluster()
-    process = started(tmp_path, "--scheduler", address, "--patience", 300, wrapper=wrapper)
+    process = started(tmp_path, "--scheduler", address, "--insecure", "--patience", 300, wrapper=wrapper)
     wait_for(lambda: len(results(tmp_path)) == 2)
     for one in first:
         stop(one)
@@ -485,14 +354,14 @@ def test_a_scheduler_that_is_killed_and_started_again(tmp_path: Path, cluster: C
     assert process.returncode == 1 and answers(tmp_path) == THREE, (out, errors)
     # without a worker, and without a scheduler, each package has a line
     stop(second[1])
-    ended = release(tmp_path, "--scheduler", address, "--patience", 1, out="other")
+    ended = release(tmp_path, "--scheduler", address, "--insecure", "--patience", 1, out="other")
     assert ended.status == 2 and len(answers(tmp_path, "other")) == 3, ended
     assert {line["reason"] for line in lines(tmp_path, "other").values()} == {"no worker was there for 1 seconds"}
     stop(second[0])
     packaged(tmp_path / "new", library(tmp_path, "lib0.so.1", "long"), version="2")
-    ended = release(tmp_path, "--scheduler", address, "--patience", 1)
+    ended = release(tmp_path, "--scheduler", address, "--insecure", "--patience", 1)
     assert ended.status == 2, ended
-    assert set(answers(tmp_path).values()) == {"not judged"}
+    assert set(answers(tmp_path).values()) == {"cannot tell"}
     assert all("the scheduler cannot be reached" in line["reason"] for line in lines(tmp_path).values())
 
 
@@ -504,7 +373,7 @@ def test_a_full_disk_is_a_reason(tmp_path: Path) -> None:
     packaged(tmp_path / "new", large)
     ended = release(tmp_path, before=("prlimit", "--fsize=1000000", "--"))
     found = lines(tmp_path)
-    assert ended.status == 2 and answers(tmp_path) == {"lib0 lib0.so.1": "yes", "lib1 -": "not judged", "lib2 lib2.so.1": "yes"}
+    assert ended.status == 2 and answers(tmp_path) == {"lib0 lib0.so.1": "yes", "lib1 -": "cannot tell", "lib2 lib2.so.1": "yes"}
     assert found["lib1 -"]["reason"] == "File too large" and found["lib1 -"]["tries"] == 2
     assert release(tmp_path).status == 1 and answers(tmp_path) == THREE
 
@@ -541,8 +410,8 @@ def test_results_on_a_full_disk(tmp_path: Path) -> None:
     three(tmp_path)
     ended = on_a_disk(tmp_path, 1 << 16, 1 << 16)
     assert ended.status == 2 and "a table could not be written, so it is printed: " in ended.errors, ended
-    assert ended.out.splitlines() == [f"not judged lib{one}: No space left on device; tried 2 times" for one in range(3)] + [
-        "3 lines: 3 not judged"] * 2
+    assert ended.out.splitlines() == [f"cannot tell lib{one}: No space left on device, tried 2 times" for one in range(3)] + [
+        "3 lines: 3 cannot tell"] * 2
 
 
 def test_packages_are_unpacked_on_a_full_disk(tmp_path: Path) -> None:
@@ -554,7 +423,7 @@ def test_packages_are_unpacked_on_a_full_disk(tmp_path: Path) -> None:
     packaged(tmp_path / "new", large)
     ended = on_a_disk(tmp_path, 2 << 20, 0, TMPDIR=str(tmp_path / "disk"))
     assert ended.status == 2, ended
-    assert answers(tmp_path, "kept") == {"lib0 lib0.so.1": "yes", "lib1 -": "not judged", "lib2 lib2.so.1": "yes"}
+    assert answers(tmp_path, "kept") == {"lib0 lib0.so.1": "yes", "lib1 -": "cannot tell", "lib2 lib2.so.1": "yes"}
     assert lines(tmp_path, "kept")["lib1 -"]["reason"] == "No space left on device"
 
 
@@ -582,7 +451,8 @@ def compressed(path: Path, size: int, packed: bytes) -> None:
 
 
 def test_libraries_that_ask_for_gigabytes_cost_a_line_each(tmp_path: Path) -> None:
-    """A section that claims 10 GB, one that has a gigabyte, and types for which `abi` needs more than 10 GB."""
+    """A section that claims 10 GB, one that has a gigabyte, which is too much, and a file without segments, which no loader takes, so that
+    `abi` is not asked about its types, for which it would need more than 10 GB."""
     three(tmp_path)
     says, has = library(tmp_path, "libsays.so.1"), library(tmp_path, "libhas.so.1")
     compressed(says, 10 << 30, zlib.compress(b"\0" * 1000))
@@ -600,15 +470,15 @@ def test_libraries_that_ask_for_gigabytes_cost_a_line_each(tmp_path: Path) -> No
     assert ended.status == 1 and {name: found[name] for name in THREE} == THREE
     reasons = {name.split()[0]: line.get("reason", "") for name, line in lines(tmp_path).items()}
     assert "10737418240 bytes" in reasons["libsays"]
-    assert reasons["libhas"] == "memory ran out under the limit of a worker"
-    assert reasons["libasks"] == "abi ran out of memory under its limit of 300 MB"
+    assert "1073741824 bytes once it is inflated, which is too much" in reasons["libhas"]
+    assert "its program headers are damaged" in reasons["libasks"]
 
 
 def test_a_library_that_takes_too_long_costs_a_line(tmp_path: Path) -> None:
     three(tmp_path)
-    wrapper = wrapper_of(tmp_path, 'case "$*" in *lib1.so.1*) while :; do :; done ;; esac')
+    wrapper = wrapper_of(tmp_path, 'case "$judged" in *lib1.so.1*) while :; do :; done ;; esac')
     ended = release(tmp_path, "--seconds", 3, "--tries", 1, wrapper=wrapper)
-    assert ended.status == 2 and answers(tmp_path) == {**THREE, "lib1 lib1.so.1": "not judged"}, ended
+    assert ended.status == 2 and answers(tmp_path) == {**THREE, "lib1 lib1.so.1": "cannot tell"}, ended
     assert lines(tmp_path)["lib1 lib1.so.1"]["reason"] == "abi was ended: its limit is 3 seconds of processor time"
 
 
@@ -664,7 +534,7 @@ def test_wrong_arguments_and_folders(tmp_path: Path) -> None:
     for options, words in ((("--rules", "none"), "there is no rule file none"), (("--tries", "0"), "0 is not above 0"),
                            (("more",), "unrecognized arguments")):
         ended = release(tmp_path, *options)
-        assert ended.status == 2 and words in ended.errors, ended
+        assert ended.status == (2 if "--rules" in options else 64) and words in ended.errors, ended
     rules = tmp_path / "rules"
     rules.write_text("[suppress_function]\nname = area\n")
     assert release(tmp_path, "--rules", rules).status == 2

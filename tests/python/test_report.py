@@ -68,6 +68,63 @@ def test_members_that_only_moved_stand_behind_what_moved_them(project: Project) 
     assert [change["rules"] for change in block["changes"]][-1] == ["L7"], block
 
 
+def test_members_that_one_change_moved_stand_in_one_line(project: Project) -> None:
+    """Behind `--all` each has a line of its own, and on the page each stands behind a click. Fewer than four keep their lines."""
+    members = "".join(f"    long m{number};\n" for number in range(57))
+    source = "struct inside {{\n    long first;\n{0}{1}}};\nint run(struct inside *all) {{ return all->first; }}\n"
+    old = project.build("old", "", source.format("", members))
+    new = project.build("new", "", source.format("    long added_inside;\n", members))
+    lines = report(old, new).out.splitlines()
+    assert [line.strip() for line in lines if " member" in line and line.startswith("  ")] == [
+        "member added_inside: long int, added, 8 bytes, at byte 8  src/stream.c:3 (new)",
+        "L7      the 57 members behind added_inside move by 8 bytes (--all lists them)"], lines
+    whole = report("--all", old, new).out
+    assert whole.count("\n  L7      member m") == 57 and "move by" not in whole
+    page = report("--format", "html", old, new).out
+    assert page.count("<summary>the 57 members behind added_inside move by 8 bytes</summary>") == 1 and "member m56" in page
+    assert len(document(old, new)["report"]["types"][0]["changes"]) == 59
+    few = [project.build(name, "", source.format(added, "    long a, b, c;\n")) for name, added in (("a", ""), ("b", "    long added_inside;\n"))]
+    assert report(*few).out.count("\n  L7      member ") == 3
+    assert "the 57 members behind added_inside move by 8 bytes towards the start" in report(new, old).out
+
+
+def test_an_alignment_names_the_member_that_has_it(project: Project) -> None:
+    source = "struct pair {{ int first; int second {0}; long *third {1}; }};\nint run(struct pair *all) {{ return all->first; }}\n"
+    old, new, both = (project.build(name, "", source.format(*words)) for name, words in (
+        ("old", ("", "")), ("new", ("__attribute__((aligned(8)))", "")), ("both", ["__attribute__((aligned(16)))"] * 2)))
+    assert "  L4      alignment: none -> 8 bytes, that of member second\n" in report(old, new).out
+    assert "  L4      alignment: 8 bytes -> none, that of member second\n" in report(new, old).out
+    assert "  L4      alignment: 8 bytes -> 16 bytes, that of members second, third\n" in report(new, both).out
+    whole = project.build("whole", "", "struct __attribute__((aligned(8))) pair { int first; int second; long *third; };\n"
+                          "int run(struct pair *all) { return all->first; }\n")
+    assert "  L4      alignment: none -> 8 bytes\n" in report(old, whole).out
+
+
+def test_all_places_of_a_changed_number_are_named(project: Project) -> None:
+    """`abi` reports a pair of types once, at the result."""
+    source = "{0} scale({0} by, int times, const {0} *table) {{ return by * times + *table; }}\n"
+    old, new = (project.build(name, "", source.format(kind)) for name, kind in (("old", "float"), ("new", "double")))
+    assert abi("check", old, new).out == "no\nL2 scale result: size 4, now 8\n"
+    assert "  by way of scale / result, scale / param 1, scale / param 3 / target  " in report(old, new).out
+    page = report("--format", "html", old, new).out
+    for step in ("param 1", "param 3"):
+        assert f'<span class="code find">scale</span><li><span class="code">{step}</span>' in page
+    members = "struct pair {{ {0} one, two; int *three; }};\nint run(struct pair *all) {{ return *all->three; }}\n"
+    old, new = (project.build(name, "", members.format(kind)) for name, kind in (("first", "int"), ("second", "unsigned")))
+    lines = [line.strip() for line in report(old, new).out.splitlines() if " member " in line]
+    assert [line.split(",")[0] for line in lines] == ["L3      member one: int -> unsigned int", "member two: int -> unsigned int"], lines
+
+
+def test_types_that_callers_see_stand_before_opaque_ones(project: Project) -> None:
+    """The first path leads through the opaque type."""
+    header = HEADER.replace("struct limits { int low, high; };", "struct limits { int low, %shigh; };")
+    source = SOURCE.replace("int status;", "int status; struct limits *found;%s")
+    old = project.build("old", header % "", source % "")
+    new = project.build("new", header % "step, ", source % " long more;")
+    titles = [one["title"] for one in document(old, new)["report"]["types"]]
+    assert titles == ["struct limits", "struct state"]
+
+
 def test_places_of_both_libraries_are_below_folders_of_the_same_depth(project: Project) -> None:
     """The new library has places only in its header."""
     old = project.build("old")
@@ -75,6 +132,34 @@ def test_places_of_both_libraries_are_below_folders_of_the_same_depth(project: P
     lines = report(old, new).out.splitlines()
     assert "struct stream  include/stream.h:5" in lines, lines
     assert any(line.endswith("it was defined at src/stream.c:9") for line in lines), lines
+
+
+def test_paths_of_sources_have_one_spelling(project: Project) -> None:
+    """The header is included by two names, of which one goes up and down again."""
+    home = project.folder / "tree"
+    made = []
+    for name, more in (("old", ""), ("new", " long more;")):
+        (home / "src").mkdir(parents=True, exist_ok=True)
+        (home / "src" / "descr.h").write_text(f"struct inner {{ int one;{more} }};\nstruct outer {{ struct inner inner; int two; }};\n")
+        (home / "src" / "a.c").write_text('#include "../src/./../src/descr.h"\nint run(struct outer *all) { return all->two; }\n')
+        made.append(project.folder / f"{name}.so")
+        done("gcc", "-shared", "-fPIC", "-g", "-o", made[-1], "./src/../src/a.c", folder=home)
+    assert "/../" not in report(*made).out
+    found = document(*made)["report"]["types"]
+    assert {one["old"]["place"]["file"] for one in found} == {str(home / "src" / "descr.h")}, found
+    assert {line["old_place"]["file"] for one in found for line in one["changes"] if line["old_place"]} == {str(home / "src" / "descr.h")}
+
+
+def test_no_name_turns_a_sentence(project: Project) -> None:
+    """The name of a file has the control character that turns the direction of a line (U+202E)."""
+    made = []
+    for name, more in (("old", ""), ("new", " long more;")):
+        source = project.folder / "turned\u202e.c"
+        source.write_text(f"struct inner {{ int one;{more} }};\nint run(struct inner *all) {{ return all->one; }}\n")
+        made.append(project.folder / f"{name}\u202e.so")
+        done("gcc", "-shared", "-fPIC", "-g", "-o", made[-1], source)
+    text, page = report(*made).out, report("--format", "html", *made).out
+    assert "\u202e" not in text + page and "new\\xe2\\x80\\xae.so may not replace" in text and "new\\xe2\\x80\\xae.so may not replace" in page
 
 
 def test_a_variable_has_the_place_of_its_declaration(project: Project) -> None:
@@ -120,6 +205,14 @@ def test_statuses_where_it_cannot_be_told(project: Project) -> None:
     for arguments in (("--format", "yaml", str(old), str(old)), (str(old),), ("--require-types", "101", str(old), str(old))):
         ended = report(*arguments)
         assert ended.status == 2 and ended.errors.startswith("usage: abi-report"), ended
+
+
+def test_a_file_that_cannot_be_read_is_named_with_the_words_of_the_system(project: Project) -> None:
+    old = project.build("old")
+    missing = project.folder / "missing.so"
+    assert report(missing, old).out.splitlines()[0] == f"cannot tell: {missing}: No such file or directory"
+    assert f"abi: {missing}: No such file or directory" in abi("check", missing, old).errors
+    assert report("--quiet", old, project.folder).out == f"cannot tell: {project.folder}: Is a directory\n"
 
 
 def test_no_certificate_is_left_where_the_answer_is_no(project: Project) -> None:
@@ -261,6 +354,22 @@ def test_notes_name_all_exports_that_reach_a_type(project: Project, monkeypatch:
     assert f"  {words}" in lines and "Notes" not in lines, lines
     (block,) = document(old, old)["report"]["types"]
     assert (block["exports"], block["all_exports"]) == (["deflate", *(others or [])], others is not None)
+
+
+def test_without_notes_the_exports_of_a_structure_are_searched_for(project: Project, monkeypatch: pytest.MonkeyPatch) -> None:
+    """As when the notes on thousands of breaks pass a limit. With `--fast` or a rule file nothing is searched for."""
+    old = project.build("old")
+    records = Records(Entries(old))
+    deflate = records.export("deflate")
+    assert deflate is not None
+    (stream,) = {one.offset for one, steps in reached(records, deflate, 100) if steps == ("param 1", "target")}
+    stand_in(project, monkeypatch, breaks=[one_break("L2", "deflate", "param 1 / target", old_entry=stream, new_entry=stream)])
+    (line,) = [line for line in report(old, old).out.splitlines() if line.startswith("  reached by ")]
+    assert line.startswith("  reached by 3 exports: deflate, ") and "inflate" in line and "state_new" in line, line
+    assert "perhaps" not in report("--format", "html", old, old).out
+    (project.folder / "abi.rules").write_text("")
+    for options in (["--fast"], ["--rules", project.folder / "abi.rules"]):
+        assert "  reached by deflate, and perhaps by others\n" in report(*options, old, old).out
 
 
 def test_what_reaches_the_type_of_a_member_may_not_reach_the_structure(project: Project, monkeypatch: pytest.MonkeyPatch) -> None:

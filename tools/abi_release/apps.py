@@ -2,6 +2,7 @@
 
 from __future__ import annotations
 
+import os
 import re
 import tempfile
 from dataclasses import dataclass
@@ -9,19 +10,24 @@ from pathlib import Path
 from typing import Iterable, Mapping, NamedTuple, Optional
 
 from abi_tools.abi_program import NO, YES, Abi, Answer
+from abi_tools.package_judging import safe_name
+from abi_tools.unpacked_trees import folder_package
 from abi_tools.unpacking import unpack
 from abi_tools.verdicts import Verdict
 from abi_release import workers
-from abi_release.judging import Outcome, Settings, guarded, rule_file_of
+from abi_release.digests import digest_of_files, states
+from abi_release.judging import Outcome, Settings, allow_more_time, guarded, rules_of
 from abi_release.limited_program import LimitedAbi
-from abi_release.needs import files_that_need
+from abi_release.needs import files_that_need, programs
 from abi_release.sources import Work
 from abi_release.stored_files import Json, Store, app_name, record_name
-from abi_release.unpacked import Unpacked, tree_names, unpacked
+from abi_release.unpacked import Trouble, Unpacked, unpacked
 
 _COMMAND = re.compile(r"^(usage:)?\s*abi app ", re.MULTILINE)
 # How many of the programs that break are named, and how many of the exports at fault.
 _MOST_NAMED = 20
+# The longest part of a program's name that is used in the name of a file.
+_LONGEST = 100
 
 
 class Ask(NamedTuple):
@@ -65,13 +71,20 @@ def _asked(ask: Ask, settings: Settings, store: Store) -> Outcome:
     known = store.json(place)
     if known is not None and known["identity"] == identities and all(library in known["answers"] for library in ask.libraries):
         return Outcome()
-    workers.allow_more_time(settings.limits.seconds)
-    packages = unpacked(settings.out, ask.work, settings.places(ask.work), identities[1])
+    packages = unpacked(settings.to_unpack(ask.work, tuple(identities[1])))
     abi = LimitedAbi(packages.folder, settings.limits)
-    with tempfile.TemporaryDirectory(prefix="abi-release-", dir=workers.folder()) as folder:
-        root, needing = _programs(settings.places(ask.hit)[0][0], Path(folder))
-        answers = {library: _Asking(abi, packages, settings, library).answer(root, needing.get(soname_of(library), ()))
-                   for library in ask.libraries}
+    with tempfile.TemporaryDirectory(prefix="programs-", dir=workers.places(settings.run).disk) as folder:
+        hit = settings.places(ask.hit)[0][0]
+        before = states([hit]), digest_of_files(settings.places(ask.hit)[0])
+        files, needing = _programs(hit, Path(folder))
+        answers = {}
+        for library in ask.libraries:
+            allow_more_time(settings, store, ask.mark)
+            soname = packages.pairs[library].soname
+            answers[library] = _Asking(abi, packages, settings, library).answer(files, needing.get(soname, ()))
+        packages.check()
+        if before != (states([hit]), identities[0][0]) or not all(map(os.path.lexists, files.values())):
+            raise Trouble("the package changed, or what was unpacked went away, while it was read")
     if abi.trouble:
         return Outcome(reason=abi.trouble)
     store.put_json(place, {"identity": identities, "answers": answers})
@@ -80,20 +93,26 @@ def _asked(ask: Ask, settings: Settings, store: Store) -> Outcome:
 
 def _identity(store: Store, work: Work) -> list[str]:
     record = store.json(record_name(work.name))
-    return record["identity"] if record is not None else []
+    return list(record["identity"]) if record is not None else []
 
 
-def soname_of(library: str) -> str:
-    """The soname of a library, from its name in a line."""
-    return library.rsplit("/", 1)[-1]
+def _programs(place: Path, folder: Path) -> tuple[Mapping[str, Path], Mapping[str, list[str]]]:
+    """The programs of an old package by name, unpacked to `folder` unless it is a tree, and for each library those that need it."""
+    if place.is_dir():
+        files = programs(folder_package(place))
+    else:
+        found = programs(unpack(place, folder))
+        files = {name: _with_name(path, folder / f"{number}.named", name) for number, (name, path) in enumerate(found.items())}
+    return files, files_that_need(files)
 
 
-def _programs(place: Path, folder: Path) -> tuple[Path, Mapping[str, list[str]]]:
-    """The root of an old package, unpacked to `folder` unless it is a tree, and for each library the files that need it."""
-    root = place if place.is_dir() else folder
-    if not place.is_dir():
-        unpack(place, root)
-    return root, files_that_need(root, tree_names(root))
+def _with_name(path: Path, folder: Path, name: str) -> Path:
+    """Gives the file of a program on this machine the program's file name, which `abi` names in its sentences, in a new folder. A file may
+    have several names in its package."""
+    folder.mkdir(mode=0o700)
+    named = folder / safe_name(name.rpartition("/")[2])[:_LONGEST]
+    os.link(path, named)
+    return named
 
 
 @dataclass(frozen=True)
@@ -105,27 +124,27 @@ class _Asking:
     settings: Settings
     library: str
 
-    def answer(self, root: Path, programs: Iterable[str]) -> Json:
-        """The answer for programs below a root: no if one breaks, else cannot tell if `abi` cannot tell for one, else yes."""
+    def answer(self, files: Mapping[str, Path], names: Iterable[str]) -> Json:
+        """The answer for programs by their names: no if one breaks, else cannot tell if `abi` cannot tell for one, else yes."""
         broken: list[str] = []
         labels: set[str] = set()
         reason = ""
-        for name in programs:
-            said = self._of(root / name)
+        for name in names:
+            said = self._of(files[name])
             if said.status == NO:
                 broken.append(name)
                 labels.update(row.split(" ", 2)[1].rstrip(":") for row in said.rows if row.count(" "))
             elif said.status != YES:
-                reason = reason or f"{name}: {said.why()}"
+                reason = reason or f"{name}: {self.packages.plain(said.why().replace(str(files[name]), name))}"
         verdict = Verdict.NO if broken else Verdict.CANNOT_TELL if reason else Verdict.YES
         answer: Json = {"answer": verdict.words(), "programs": broken[:_MOST_NAMED], "exports": sorted(labels)[:_MOST_NAMED]}
-        return {**answer, "reason": reason.replace(f"{root}/", "")} if reason else answer
+        return {**answer, "reason": reason} if reason else answer
 
     def _of(self, program: Path) -> Answer:
         """What `abi app` says of one program."""
         pair = self.packages.pairs[self.library]
         old, new = self.packages.kept(pair)
-        rules = rule_file_of(self.settings, pair, self.packages)
+        rules = rules_of(self.settings, pair, self.packages).file
         options = [] if rules is None else [f"--rules={rules}"]
         return self.abi.run("app", *options, "--", str(program), str(old), str(new))
 

@@ -3,28 +3,27 @@
 from __future__ import annotations
 
 import contextlib
-import hashlib
 import logging
 import os
-import shutil
 import site
+import sys
 import tempfile
 from dataclasses import dataclass
 from functools import partial
 from pathlib import Path
-from typing import Iterator, Optional
+from typing import Any, Iterator, Optional
 
 import dask
-from distributed import Client, LocalCluster
+from distributed import Client, Nanny, Scheduler, Security, SpecCluster
 
+from abi_release.scratch import Scratch, sweep
 from abi_release.unpacked import let_go_of
-from abi_release.workers import LimitPlugin
+from abi_release.workers import LimitPlugin, Places, QuietWorker, memory_parent
 from abi_tools.faults import Fault
 
 _TOOLS = str(Path(__file__).resolve().parent.parent)
 _MEGABYTE = 1 << 20
-# Files here stay in memory (Linux).
-_IN_MEMORY = Path("/dev/shm")
+_LOOPBACK = "127.0.0.1"
 # How many seconds a client may take to disconnect.
 _CLOSES_IN = 2
 # The scheduler gives each worker one task at a time, so that only one is suspected when the worker dies, and reports the death at once.
@@ -53,88 +52,124 @@ class NotStarted(Exception):
     """The local cluster did not start, as can happen on an overloaded machine."""
 
 
+class _QuietScheduler(Scheduler):
+    """A scheduler without an HTTP server."""
+
+    def start_http_server(self, *_arguments: Any, **_options: Any) -> None:
+        """Starts none."""
+
+
 @dataclass(frozen=True)
 class LocalChoice:
-    """A local cluster: how many workers it has, how many megabytes each may take, and the folder of the run's results."""
+    """A local cluster: how many workers it has, how many megabytes each may take, and whether it has Dask's dashboard. Its processes
+    listen on the loopback only, and talk to nobody without the certificate that the run makes for itself."""
 
     workers: int
     megabytes: int
-    out: Path
+    has_dashboard: bool = False
 
     @contextlib.contextmanager
     def client(self) -> Iterator[Client]:
         """A context with a client of the cluster. Raises NotStarted if the cluster does not start."""
-        folder = Path(tempfile.gettempdir(), self._name())
-        memory = _IN_MEMORY / self._name()
-        for one in (folder, memory):
-            shutil.rmtree(one, ignore_errors=True)
-        with dask.config.set(_LOCAL_SETTINGS):
+        with contextlib.ExitStack() as folders, dask.config.set(_LOCAL_SETTINGS):
+            disk, memory = _scratch(folders, Path(tempfile.gettempdir())), None
+            parent = memory_parent()
+            if parent is not None:
+                with contextlib.suppress(OSError):
+                    memory = _scratch(folders, parent).folder
             parts = contextlib.ExitStack()
             try:
-                yield self._started(parts, folder, memory)
+                yield self._started(parts, Places(disk.folder, memory), disk.part("dask"))
             finally:
                 # All results are stored by now, so a worker that does not end in time does no harm.
                 with contextlib.suppress(OSError, TimeoutError, RuntimeError):
                     parts.close()
-                for one in (folder, memory):
-                    shutil.rmtree(one, ignore_errors=True)
 
-    def _started(self, parts: contextlib.ExitStack, folder: Path, memory: Path) -> Client:
+    def _started(self, parts: contextlib.ExitStack, places: Places, folder: Path) -> Client:
         """Starts the cluster and a client of it. `parts` closes both."""
         try:
-            cluster = parts.enter_context(LocalCluster(
-                n_workers=self.workers, threads_per_worker=1, processes=True, dashboard_address=":0",
-                memory_limit=2 * self.megabytes * _MEGABYTE, local_directory=str(folder), silence_logs=logging.CRITICAL))
-            client = parts.enter_context(Client(cluster))
-            client.register_worker_plugin(LimitPlugin(self.megabytes, _made(memory)))
+            security = Security.temporary()
+        except ImportError as error:
+            raise Fault("there is no cryptography for Python: install the package python3-cryptography") from error
+        everywhere = {"host": _LOOPBACK, "protocol": "tls://", "security": security}
+        worker = {"cls": Nanny, "options": {
+            **everywhere, "worker_class": QuietWorker, "nthreads": 1, "dashboard": False, "local_directory": str(folder),
+            "memory_limit": 2 * self.megabytes * _MEGABYTE, "silence_logs": logging.CRITICAL}}
+        scheduler = {"cls": Scheduler if self.has_dashboard else _QuietScheduler, "options": {
+            **everywhere, "port": 0, "dashboard": self.has_dashboard, "dashboard_address": f"{_LOOPBACK}:0"}}
+        try:
+            cluster = parts.enter_context(SpecCluster(scheduler=scheduler, workers=dict.fromkeys(range(self.workers), worker),
+                                                      security=security, silence_logs=logging.CRITICAL))
+            if self.has_dashboard:
+                print(f"abi-release: the dashboard is at {cluster.dashboard_link}", file=sys.stderr)
+            client: Client = parts.enter_context(Client(cluster))
+            client.register_worker_plugin(LimitPlugin(self.megabytes, places))
         except (OSError, TimeoutError, RuntimeError) as error:
             raise NotStarted(f"this machine's cluster did not start: {error}") from error
         return client
 
-    def _name(self) -> str:
-        """The name of the folder where the workers unpack. It belongs to the folder of results, whose next run clears it."""
-        mark = hashlib.sha256(os.fsencode(self.out.resolve())).hexdigest()[:16]
-        return f"abi-release-{os.getuid()}-{mark}"
+
+def _scratch(folders: contextlib.ExitStack, parent: Path) -> Scratch:
+    """Makes a folder for work in progress, which `folders` removes, and removes those of runs that were killed."""
+    sweep(parent)
+    return folders.enter_context(contextlib.closing(Scratch.new(parent)))
 
 
-def _made(folder: Path) -> Optional[str]:
-    """Makes a folder and returns its name; None if it cannot be made."""
-    try:
-        folder.mkdir(mode=0o700)
-    except OSError:
-        return None
-    return str(folder)
+@dataclass(frozen=True)
+class Keys:
+    """The files of TLS, all in PEM: the certificate authority of the cluster, and this run's certificate and key."""
+
+    authority: str
+    certificate: str
+    key: str
+
+    def security(self) -> Security:
+        """The same for Dask. Raises a fault if a file is missing or not in PEM."""
+        security = Security(require_encryption=True, tls_ca_file=self.authority, tls_client_cert=self.certificate, tls_client_key=self.key)
+        try:
+            security.get_connection_args("client")
+        except (OSError, ValueError) as error:
+            raise Fault(f"the files of --tls-ca, --tls-cert and --tls-key cannot be used: {error}") from error
+        return security
 
 
 @dataclass(frozen=True)
 class OtherChoice:
-    """A running cluster: the address of its scheduler, how many seconds to wait for it, and the folder of the run's results."""
+    """A running cluster: the address of its scheduler, the files of TLS (None for a cluster without TLS), how many seconds to wait for it,
+    and the mark of the run."""
 
     address: str
+    keys: Optional[Keys]
     patience: float
-    out: Path
+    run: str
 
     @contextlib.contextmanager
     def client(self) -> Iterator[Client]:
         """A context with a client of the cluster. Raises a fault if the scheduler cannot be reached."""
+        security = None if self.keys is None else self.keys.security()
         try:
-            client = Client(self.address, timeout=self.patience, set_as_default=False)
+            client = Client(self.address, timeout=self.patience, set_as_default=False, security=security)
             # The workers import this package from a folder of the same name as on this machine.
             client.register_worker_callbacks(setup=partial(site.addsitedir, _TOOLS))
         except (OSError, TimeoutError) as error:
             raise Fault(f"the scheduler cannot be reached: {error}") from error
         try:
             yield client
-            # The workers go on running, so they remove what they unpacked for this run.
-            with contextlib.suppress(OSError, TimeoutError):
-                client.run(let_go_of, str(self.out))
         finally:
-            # The scheduler may be gone.
+            # The workers go on running, so they remove what they unpacked for this run. The scheduler may be gone.
+            with contextlib.suppress(OSError, TimeoutError, RuntimeError):
+                client.run(let_go_of, self.run, on_error="ignore")
             with contextlib.suppress(OSError, TimeoutError):
                 client.close(timeout=_CLOSES_IN)
 
 
 Choice = LocalChoice | OtherChoice
+
+
+def default_disk() -> int:
+    """How many megabytes of the disk unpacked packages may take: half of what is free in the folder for temporary files, at most 16 GB."""
+    found = os.statvfs(tempfile.gettempdir())
+    return max(1, min(16384, found.f_bavail * found.f_frsize // (2 * _MEGABYTE)))
 
 
 def processors() -> int:

@@ -9,14 +9,14 @@ import os
 import sys
 import time
 from pathlib import Path
-from typing import Callable, Sequence, TextIO
+from typing import Callable, Optional, Sequence, TextIO
 
 from abi_tools.abi_program import Abi
 from abi_tools.arguments import Arguments, share
 from abi_tools.faults import Fault
 from abi_tools.verdicts import Verdict
 from abi_release.apps import Ask, has_command
-from abi_release.clusters import Choice, LocalChoice, OtherChoice, default_megabytes, processors
+from abi_release.clusters import Choice, Keys, LocalChoice, OtherChoice, default_disk, default_megabytes, processors
 from abi_release.digests import OF_NOTHING, digest_of_file, program_digest
 from abi_release.judging import Part, Settings
 from abi_release.limited_program import Limits, check_time
@@ -36,17 +36,21 @@ so that a second run does only what is missing or changed. `abi` is the one that
 _STATUSES = """\
 FOLDER/table.txt, release.json and index.html have a line for each library, and for each pair of packages that could not be read.
 Exit status:
-  0  yes: each library may be replaced by the new one
-  1  no: one may not, or is gone
-  2  it cannot tell for one library, or one was not judged, and it says no to none; also if no library is on both sides, or if the
-     arguments are wrong
+  0   yes: each library may be replaced by the new one
+  1   no: one may not, or is gone
+  2   it cannot tell for one library, and says no to none; also if no library is on both sides, or if an input cannot be read
+  64  the arguments are wrong
 """
 _OUTPUTS = ("table.txt", "release.json", "index.html")
+# How many seconds by the clock a second of processor time may take.
+_CLOCK = 10
 
 
 def main(arguments: Sequence[str]) -> int:
     """Judges releases as the arguments say, writes the tables, and returns the worst verdict."""
-    given = _parser().parse_args(arguments)
+    parser = _parser()
+    given = parser.parse_args(arguments)
+    keys = _keys(parser, given)
     abi = Abi()
     check_time()
     releases = Release.of(given.old), Release.of(given.new)
@@ -55,12 +59,14 @@ def main(arguments: Sequence[str]) -> int:
     store = Store(given.out.resolve())
     lock = store.open()
     try:
-        settings = Settings(str(given.old.resolve()), str(given.new.resolve()), str(store.folder),
+        limits = Limits(given.memory or default_megabytes(given.workers), given.seconds, given.clock or _CLOCK * given.seconds,
+                        given.disk or default_disk())
+        settings = Settings(os.urandom(16).hex(), str(given.old.resolve()), str(given.new.resolve()), str(store.folder),
                             None if given.rules is None else str(given.rules.resolve()), program_digest(abi.path),
-                            given.require_types, Limits(given.memory or default_megabytes(given.workers), given.seconds))
+                            given.require_types, limits)
         os.environ["ABI"] = abi.path
-        choice: Choice = (LocalChoice(given.workers, settings.limits.megabytes, store.folder) if given.scheduler is None
-                          else OtherChoice(given.scheduler, given.patience, store.folder))
+        choice: Choice = (LocalChoice(given.workers, limits.megabytes, given.dashboard) if given.scheduler is None
+                          else OtherChoice(given.scheduler, keys, given.patience, settings.run))
         run = Run(settings, store, choice, given.tries, given.patience)
         for side, release in zip(("old", "new"), releases):
             for kind, count in sorted(release.passed_over.items()):
@@ -71,7 +77,7 @@ def main(arguments: Sequence[str]) -> int:
 
 
 def _parser() -> Arguments:
-    parser = Arguments("abi-release", _DESCRIPTION, _STATUSES, wrong=Verdict.CANNOT_TELL)
+    parser = Arguments("abi-release", _DESCRIPTION, _STATUSES)
     parser.add_argument("old", type=Path, metavar="OLD")
     parser.add_argument("new", type=Path, metavar="NEW")
     parser.add_argument("--out", type=Path, required=True, metavar="FOLDER", help="where to keep results and tables")
@@ -81,16 +87,50 @@ def _parser() -> Arguments:
                         help="the percentage of compared exports that must have types in both libraries (default: at least one export)")
     parser.add_argument("--workers", type=_count, default=processors(), metavar="N",
                         help="how many workers to start on this machine (default: one for each processor)")
-    parser.add_argument("--scheduler", metavar="ADDRESS", help="the scheduler of a Dask cluster that does the work instead")
+    parser.add_argument("--dashboard", action="store_true",
+                        help="have Dask's dashboard on this machine: all its users can read it (default: no HTTP server)")
+    parser.add_argument("--scheduler", metavar="ADDRESS",
+                        help="the scheduler of a Dask cluster that does the work instead, such as tls://HOST:8786")
+    parser.add_argument("--tls-ca", metavar="FILE", help="the certificate of the authority that all of the cluster trust, in PEM")
+    parser.add_argument("--tls-cert", metavar="FILE", help="the certificate of this run, which the authority has signed, in PEM")
+    parser.add_argument("--tls-key", metavar="FILE", help="the key of that certificate, in PEM")
+    parser.add_argument("--insecure", action="store_true",
+                        help="use a cluster without TLS: everyone who reaches it can run programs as its user")
     parser.add_argument("--memory", type=_count, metavar="MB",
                         help="the memory limit of a worker, and also of each run of abi (default: a worker's share of half of the memory)")
     parser.add_argument("--seconds", type=_count, default=600, metavar="S",
                         help="the processor time limit of each run of abi, and of a worker for each library (default: 600)")
+    parser.add_argument("--clock", type=_count, metavar="S",
+                        help="the limit of each run of abi by the clock; a worker has twice as long for a library (default: ten times "
+                             "--seconds)")
+    parser.add_argument("--disk", type=_count, metavar="MB",
+                        help="how much of the disk of each machine unpacked packages may take (default: half of what is free, at most "
+                             "16 GB)")
     parser.add_argument("--tries", type=_count, default=2, metavar="N",
                         help="how often to try what fails (default: 2); the next run tries it again")
     parser.add_argument("--patience", type=float, default=300.0, metavar="S",
                         help="how long to wait for a scheduler or a worker (default: 300)")
     return parser
+
+
+def _keys(parser: Arguments, given: argparse.Namespace) -> Optional[Keys]:
+    """The files of TLS. Ends with an error of arguments if some are missing, or if a cluster without TLS is not asked for in so many
+    words."""
+    files = [given.tls_ca, given.tls_cert, given.tls_key]
+    if given.scheduler is None:
+        if any(files) or given.insecure:
+            parser.error("--tls-ca, --tls-cert, --tls-key and --insecure are for the cluster of --scheduler")
+        return None
+    if given.dashboard:
+        parser.error("--dashboard is for the cluster of this machine: that of --scheduler has its own")
+    if given.insecure:
+        if any(files) or given.scheduler.startswith("tls://"):
+            parser.error("--insecure is for a cluster without TLS")
+        return None
+    if not all(files) or not given.scheduler.startswith("tls://"):
+        parser.error("a scheduler needs an address with tls://, and --tls-ca, --tls-cert and --tls-key: without them everyone who reaches "
+                     "the cluster can run programs on it, and only --insecure allows that")
+    return Keys(*files)
 
 
 def _count(text: str) -> int:
@@ -104,8 +144,9 @@ def _count(text: str) -> int:
 def _head(given: argparse.Namespace, settings: Settings) -> Json:
     """What the tables say about the run itself."""
     rules = OF_NOTHING if given.rules is None else digest_of_file(given.rules)
-    return {"version": 1, "old": str(given.old), "new": str(given.new), "rules": rules, "program": settings.program,
-            "require_types": settings.least_share}
+    named = {} if given.rules is None else {"rules_file": str(given.rules)}
+    return {"version": 2, "old": str(given.old), "new": str(given.new), "rules": rules, **named, "program": settings.program,
+            "tools": settings.tools, "require_types": settings.least_share}
 
 
 def _do(run: Run, tasks: Sequence[Task], what: str) -> None:
@@ -122,15 +163,15 @@ def _do(run: Run, tasks: Sequence[Task], what: str) -> None:
 def _judge(run: Run, abi: Abi, releases: Sequence[Release], head: Json) -> Verdict:
     start = time.monotonic()
     packages = works(*releases)
-    _do(run, [Part(work) for work in packages], "packages")
-    moves = moved(packages, run.store, run.failures)
+    _do(run, [Part(work) for work in sorted(packages, key=lambda work: work.group)], "packages")
+    moves = moved(packages, run)
     _do(run, [Part(work) for work in moves], "packages")
-    table = Table(packages, moves, run.store, run.failures)
+    table = Table(packages, moves, run)
     asks = table.asks() if has_command(abi) else []
     if asks:
         _do(run, asks, "packages asked")
         _say_what_was_not_asked(run, asks)
-        table = Table(packages, moves, run.store, run.failures)
+        table = Table(packages, moves, run)
     print(f"abi-release: {len(packages)} packages in {time.monotonic() - start:.1f} seconds: {run.counts['judged']} pairs of libraries "
           f"judged, {run.counts['kept']} kept; this process took {_peak_megabytes():.0f} MB", file=sys.stderr)
     _write(table, head, run.store)

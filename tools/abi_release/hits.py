@@ -5,7 +5,7 @@ from __future__ import annotations
 from dataclasses import dataclass, field
 from typing import Iterable, Iterator, Mapping, Optional
 
-from abi_release.apps import Ask, answer_of, soname_of
+from abi_release.apps import Ask, answer_of
 from abi_release.judging import GONE
 from abi_release.needs import ANY_LIBRARY, Imports
 from abi_release.sources import MOVED, Work
@@ -19,19 +19,16 @@ _MOST_NAMED = 20
 
 @dataclass
 class _Broken:
-    """A broken library: the name and identity of its record, its old package, and its broken exports (None if the library is gone)."""
+    """A broken library: the name and identity of its record, its old package, its name there and its soname, and its broken exports (None
+    if the library is gone)."""
 
     work: str
     identity: list[str]
     package: str
     library: str
+    soname: str
     exports: Optional[frozenset[str]]
     hit: list[Json] = field(default_factory=list)
-
-    @property
-    def soname(self) -> str:
-        """Its soname."""
-        return soname_of(self.library)
 
     def imported(self, imports: Imports) -> Optional[list[str]]:
         """The broken exports among these imports; None if the library is not needed."""
@@ -59,7 +56,7 @@ class Hits:
         for line in lines:
             if line["answer"] in BROKEN:
                 exports = frozenset(line["broken"]) if "broken" in line else None
-                broken = _Broken(record["name"], record["identity"], package, line["library"], exports)
+                broken = _Broken(record["name"], record["identity"], package, line["library"], line["soname"], exports)
                 self._by_package.setdefault(package, []).append(broken)
                 self._by_library.setdefault(broken.soname, []).append(broken)
 

@@ -12,7 +12,7 @@ import tempfile
 import threading
 from dataclasses import dataclass
 from pathlib import Path
-from typing import BinaryIO, Optional, Sequence
+from typing import IO, Optional, Sequence
 
 from abi_tools.abi_program import NO, Abi, Answer
 from abi_tools.faults import ENDED_BY_SIGNAL, Fault
@@ -22,19 +22,24 @@ _TIME = "/usr/bin/time"
 _MEGABYTE = 1 << 20
 # How many bytes `abi` may print.
 _LONGEST_TEXT = 1 << 29
-# The exit statuses that say something about the inputs (yes or done, no, and a fault), and the one for memory that ran out.
-_TOLD = (0, 1, 2)
+# The exit status for a fault of the inputs, all those that say something about them (yes or done, no, and a fault), and the one for
+# memory that ran out.
+FAULT = 2
+_TOLD = (0, 1, FAULT)
 _NO_MEMORY = 4
-# A run may last this many times its processor time.
-_WAITS = 20
+# The most seconds that poll(2) waits.
+_LONGEST_WAIT = 2_000_000
 
 
 @dataclass(frozen=True)
 class Limits:
-    """The limits of a process: megabytes of memory, and seconds of processor time."""
+    """The limits of a process: megabytes of memory, seconds of processor time, and seconds by the clock; and how many megabytes of the
+    disk all unpacked packages of a host may take."""
 
     megabytes: int
     seconds: int
+    clock: int
+    disk: int
 
 
 def check_time() -> None:
@@ -44,15 +49,21 @@ def check_time() -> None:
 
 
 # One shell does several runs in turn. A line that begins with a random mark, which no run can know, ends the output of each. After each
-# run the shell goes on only if the exit status was 0 or 1.
-_LIMITS = "ulimit -S -v {kilobytes} && ulimit -S -t {seconds} && ulimit -S -f {blocks} && ulimit -S -c 0 || exit 125\n"
+# run the shell goes on only if the exit status was 0 or 1. A second shell waits for the end of the worker, however that comes, and then
+# ends all that the first one started: its `read` returns when the last process with the other end of the pipe is gone.
+_LIMITS = """\
+exec 3<&0 </dev/null
+(read ended <&3; kill -KILL 0) &
+ulimit -S -v {kilobytes} && ulimit -S -t {seconds} && ulimit -S -f {blocks} && ulimit -S -c 0 || exit 125
+"""
 _RUN = """\
-{command}
+{command} 3<&-
 status=$?
 echo "{mark} $status"
 echo "{mark}" >&2
 """
-_NEXT = "[ $status -le 1 ] || exit 0\n"
+_NEXT = "[ $status -le 1 ] || { kill $!; exit 0; }\n"
+_END = "kill $!\n"
 _BLOCK = 512
 
 
@@ -93,12 +104,12 @@ class LimitedAbi(Abi):
         script = _LIMITS.format(kilobytes=_at_most(resource.RLIMIT_AS, limits.megabytes * _MEGABYTE) // 1024,
                                 seconds=_at_most(resource.RLIMIT_CPU, limits.seconds),
                                 blocks=_at_most(resource.RLIMIT_FSIZE, _LONGEST_TEXT) // _BLOCK)
-        script += _NEXT.join(_RUN.format(command=shlex.join([self.path, *run]), mark=mark) for run in runs)
+        script += _NEXT.join(_RUN.format(command=shlex.join([self.path, *run]), mark=mark) for run in runs) + _END
         out, errors, took = files = _files(self.folder)
         # GNU time opens its output file by name.
         command = [_TIME, "--quiet", "--format=%U %S %M", f"--output=/proc/self/fd/{took.fileno()}", "/bin/sh", "-c", script]
         try:
-            with subprocess.Popen(command, stdin=subprocess.DEVNULL, stdout=out, stderr=errors, cwd=self.folder,
+            with subprocess.Popen(command, stdin=_LIFE.fileno(), stdout=out, stderr=errors, cwd=self.folder,
                                   start_new_session=True, pass_fds=[took.fileno()]) as process:
                 status = self._waited(process)
             text, notes, said = (_contents(file) for file in files)
@@ -114,9 +125,10 @@ class LimitedAbi(Abi):
 
     def _waited(self, process: subprocess.Popen[bytes]) -> int:
         """The exit status of the process; negative if a signal ended it."""
-        if not _ends_within(process, _WAITS * self._limits.seconds):
+        if not _ends_within(process, self._limits.clock):
             os.killpg(process.pid, signal.SIGKILL)
             process.wait()
+            self.trouble = f"abi was ended: its limit is {self._limits.clock} seconds by the clock"
             return -signal.SIGKILL
         return _signal_or_status(process.wait())
 
@@ -130,18 +142,34 @@ class LimitedAbi(Abi):
         """Why an answer says nothing about the inputs; empty if it does."""
         if answer.status == _NO_MEMORY:
             return f"abi ran out of memory under its limit of {self._limits.megabytes} MB"
-        if answer.status == -signal.SIGXCPU or answer.status == -signal.SIGKILL:
+        if answer.status == -signal.SIGXCPU:
             return f"abi was ended: its limit is {self._limits.seconds} seconds of processor time"
         if answer.status not in _TOLD or (answer.status == NO and not answer.text):
             return answer.why()
         return ""
 
 
+class _Life:
+    """A pipe whose one end only this process has: its other end can be read when this process is gone. Each process has its own."""
+
+    def __init__(self) -> None:
+        self._made: dict[int, tuple[int, int]] = {}
+
+    def fileno(self) -> int:
+        """The end that the started processes read."""
+        if os.getpid() not in self._made:
+            self._made[os.getpid()] = os.pipe()
+        return self._made[os.getpid()][0]
+
+
+_LIFE = _Life()
+
+
 # Each thread's files for the output of runs and of GNU time. They are kept, since making files takes longer than emptying them.
-_FILES: dict[tuple[int, int, Path], tuple[BinaryIO, BinaryIO, BinaryIO]] = {}
+_FILES: dict[tuple[int, int, Path], tuple[IO[bytes], IO[bytes], IO[bytes]]] = {}
 
 
-def _files(folder: Path) -> tuple[BinaryIO, BinaryIO, BinaryIO]:
+def _files(folder: Path) -> tuple[IO[bytes], IO[bytes], IO[bytes]]:
     """The files of this thread, which are empty between runs."""
     key = os.getpid(), threading.get_ident(), folder
     if key not in _FILES:
@@ -150,7 +178,7 @@ def _files(folder: Path) -> tuple[BinaryIO, BinaryIO, BinaryIO]:
     return _FILES[key]
 
 
-def _contents(file: BinaryIO) -> str:
+def _contents(file: IO[bytes]) -> str:
     """The text in a file."""
     size = os.fstat(file.fileno()).st_size
     return os.pread(file.fileno(), size, 0).decode("utf-8", "surrogateescape")
@@ -168,7 +196,7 @@ def _ends_within(process: subprocess.Popen[bytes], seconds: int) -> bool:
     try:
         ready = select.poll()
         ready.register(descriptor, select.POLLIN)
-        return bool(ready.poll(1000 * seconds))
+        return bool(ready.poll(1000 * min(seconds, _LONGEST_WAIT)))
     finally:
         os.close(descriptor)
 

@@ -3,8 +3,8 @@
 from __future__ import annotations
 
 import subprocess
-from pathlib import Path, PurePosixPath
-from typing import Iterable, Iterator, Optional
+from pathlib import Path
+from typing import Iterable, Iterator, Mapping, Optional
 
 from debian.arfile import ArError
 from debian.deb822 import Deb822, PkgRelation
@@ -13,6 +13,7 @@ from debian.debfile import DebError, DebFile
 from abi_tools.debug_files import DEBUG_FOLDER
 from abi_tools.elf_files import ElfFile
 from abi_tools.faults import Fault
+from abi_tools.unpacking import Package
 
 # The first bytes of a little-endian ELF-64 file.
 _IDENTITY = b"\x7fELF\x02\x01"
@@ -57,14 +58,11 @@ def _of_rpm(package: Path) -> tuple[str, list[str]]:
     return (lines[0], sorted({line for line in lines[1:] if line})) if lines else ("", [])
 
 
-def imports(root: Path, names: Iterator[Path]) -> Imports:
+def imports(files: Iterable[Path]) -> Imports:
     """What the files of a package import: for each library that one needs, the names with their versions, and for ANY_LIBRARY the names
     without a version. Files that cannot be read import nothing."""
     found: dict[str, set[str]] = {}
-    for name in names:
-        path = root / name
-        if path.is_symlink() or not path.is_file() or str(name).startswith(str(DEBUG_FOLDER).lstrip("/")):
-            continue
+    for path in files:
         with path.open("rb") as stream:
             if stream.read(len(_IDENTITY)) != _IDENTITY:
                 continue
@@ -76,13 +74,19 @@ def imports(root: Path, names: Iterator[Path]) -> Imports:
     return {library: sorted(symbols) for library, symbols in sorted(found.items())}
 
 
-def files_that_need(root: Path, names: Iterable[PurePosixPath]) -> dict[str, list[str]]:
+def programs(package: Package) -> dict[str, Path]:
+    """The ELF files of a package by name: programs and libraries, but no debug files."""
+    return {name: file.kept for name, file in package.tree.files()
+            if file.is_elf and file.kept is not None and not f"/{name}".startswith(f"{DEBUG_FOLDER}/")}
+
+
+def files_that_need(files: Mapping[str, Path]) -> dict[str, list[str]]:
     """For each library, the files of a package that need it."""
     found: dict[str, list[str]] = {}
-    for name in names:
-        for library in imports(root, iter([Path(name)])):
+    for name, path in files.items():
+        for library in imports([path]):
             if library != ANY_LIBRARY:
-                found.setdefault(library, []).append(str(name))
+                found.setdefault(library, []).append(name)
     return found
 
 

@@ -53,7 +53,7 @@ class Openings:
                 result = self._store.result(line["result"])
                 if result is None:
                     raise OSError("the result of a library is gone")
-                line = line_of(line["library"], line["result"], result)
+                line = line_of(line, result)
             record["lines"].append(line)
         record["lines"].sort(key=lambda one: str(one["library"]))
         self._store.put_json(record_name(name), record)

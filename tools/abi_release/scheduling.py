@@ -17,10 +17,11 @@ from distributed import Client, Future, KilledWorker, as_completed
 
 from abi_release.apps import Ask, asked
 from abi_release.clusters import Choice, LocalChoice, NotStarted
-from abi_release.judging import Outcome, Part, Settings, done, unjudged_line
+from abi_release.digests import digest_of_json
+from abi_release.judging import DIED, Outcome, Part, Settings, done, open_line
 from abi_release.openings import Openings
 from abi_release.progress import Progress
-from abi_release.stored_files import Json, Store
+from abi_release.stored_files import Json, Store, record_name
 from abi_tools.faults import Fault
 
 # How many batches the scheduler has for each worker thread, and how many at least.
@@ -36,7 +37,6 @@ _MOST_CLUSTERS = 10
 _LOOKS_EVERY = 1.0
 # How many deaths of its worker a task that has not begun survives.
 _MOST_WAITS = 20
-DIED = "the worker died over it"
 
 
 Task = Part | Ask
@@ -56,12 +56,12 @@ def done_in_turn(batch: Sequence[Given], settings: Settings) -> list[Outcome]:
     for task, passed_over in batch:
         if outcomes and time.monotonic() > end:
             break
-        outcomes.append((done if isinstance(task, Part) else asked)(task, settings, passed_over))
+        outcomes.append(done(task, settings, passed_over) if isinstance(task, Part) else asked(task, settings, passed_over))
     return outcomes
 
 
 class Failure(NamedTuple):
-    """Why two packages were not judged, and how often they were tried."""
+    """Why two packages, or a library of them, were not judged, and how often this was tried."""
 
     reason: str
     tries: int
@@ -77,7 +77,8 @@ class _NoWorkers(Exception):
 
 @dataclass
 class Run:
-    """A run over packages on a cluster. The results are in the store, the failures here."""
+    """A run over packages on a cluster. The results are in the store; what failed in this run is here: packages by name, and libraries by
+    package and library. `identities` has a digest of the identity of each record that belongs to this run."""
 
     settings: Settings
     store: Store
@@ -86,6 +87,8 @@ class Run:
     patience: float
     counts: Counter[str] = field(default_factory=Counter)
     failures: dict[str, Failure] = field(default_factory=dict)
+    troubles: dict[str, dict[str, Failure]] = field(default_factory=dict)
+    identities: dict[str, str] = field(default_factory=dict)
     _tried: Counter[tuple[str, str]] = field(default_factory=Counter)
     _deaths: dict[str, Counter[str]] = field(default_factory=dict)
     _waits: Counter[str] = field(default_factory=Counter)
@@ -117,6 +120,13 @@ class Run:
                 self.failures[part.name] = Failure(reason, self._tried[part.name, part.library] + 1)
                 progress.advance()
 
+    def record(self, name: str) -> Optional[Json]:
+        """The record of two packages; None if they failed, or if another process has put another record in its place."""
+        record = None if name in self.failures else self.store.json(record_name(name))
+        if record is None or digest_of_json(record["identity"]) != self.identities.get(name):
+            return None
+        return record
+
     def waiting(self) -> int:
         """How many tasks have not been submitted yet."""
         return operator.length_hint(self._source)
@@ -125,26 +135,32 @@ class Run:
         """Takes the outcome of a task, and returns what to do next."""
         self.counts["judged"] += outcome.judged
         self.counts["kept"] += outcome.kept
+        if outcome.identity:
+            self.identities[part.name] = digest_of_json(outcome.identity)
         tried = part.name, part.library
         if outcome.left and isinstance(part, Part):
             self._tried.pop(tried, None)
             return Next(first=self._openings.open(part.work, outcome))
-        if outcome.reason or outcome.failed:
+        if outcome.reason or outcome.troubles:
             self._tried[tried] += 1
             if self._tried[tried] < self.tries:
                 return Next(again=[part])
-        if not isinstance(part, Part) or not part.library:
-            if outcome.reason:
-                self.failures[part.name] = Failure(outcome.reason, self._tried[tried])
-            self._tried.pop(tried, None)
-            return Next(is_done=True)
-        self._tried.pop(tried, None)
-        return self._take_line(part, outcome.line or unjudged_line(part.library, outcome.reason))
+        times = self._tried.pop(tried, 0)
+        for library, reason in outcome.troubles.items():
+            self.troubles.setdefault(part.name, {})[library] = Failure(reason, times)
+        if isinstance(part, Part) and part.library:
+            return self._take_line(part, outcome.line, Failure(outcome.reason, times))
+        if outcome.reason:
+            self.failures[part.name] = Failure(outcome.reason, times)
+        return Next(is_done=True)
 
-    def _take_line(self, part: Part, line: Json) -> "Next":
-        """Takes the line of one of several libraries."""
+    def _take_line(self, part: Part, line: Optional[Json], failure: Failure) -> "Next":
+        """Takes the line of one of several libraries; without one, the library failed."""
+        if failure.reason:
+            self.troubles.setdefault(part.name, {})[part.library] = failure
+        is_judged = line is not None and "result" in line
         try:
-            return Next(is_done=self._openings.take(part, line))
+            return Next(is_done=self._openings.take(part, line if line is not None and is_judged else open_line(part.library)))
         except OSError as error:
             self.failures[part.name] = Failure(error.strerror or str(error), 1)
             return Next(is_done=True)
@@ -160,11 +176,14 @@ class Run:
         library = part.library or begun or ""
         deaths = self._deaths.setdefault(part.name, Counter())
         deaths[library] += 1
-        if deaths[library] < self.tries or (library and not part.library):
+        reason = self.store.why(part.mark) or DIED
+        if deaths[library] < self.tries:
             return Next(again=[part])
-        if isinstance(part, Part) and part.library:
-            return self._take_line(part, unjudged_line(part.library, DIED))
-        self.failures[part.name] = Failure(DIED, deaths[library])
+        failure = Failure(reason, deaths[library])
+        if library and isinstance(part, Part):
+            self.troubles.setdefault(part.name, {})[library] = failure
+            return self._take_line(part, None, failure) if part.library else Next(again=[part])
+        self.failures[part.name] = failure
         return Next(is_done=True)
 
     def passed_over(self, part: Task) -> tuple[str, ...]:

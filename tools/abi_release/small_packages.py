@@ -14,8 +14,10 @@ from typing import Optional
 from debian.arfile import ArError
 from debian.debfile import DebFile
 
-from abi_tools.package_sides import Side, libraries
-from abi_tools.unpacking import Package, place_members
+from abi_tools.archives import Archive
+from abi_tools.found_libraries import contents_of
+from abi_tools.package_sides import Side
+from abi_tools.unpacking import Package, placed
 
 # The sizes that a small package has at most: packed, with all its files unpacked, and of its control archive.
 _LARGEST_PACKED = 1 << 20
@@ -32,11 +34,11 @@ _DAMAGED = (ArError, tarfile.TarError, lzma.LZMAError, zlib.error, OSError, EOFE
 
 @dataclass(frozen=True)
 class SmallPackage:
-    """A .deb in memory: its file, the text of its control file, and the archive of its files."""
+    """A .deb in memory: its file, the text of its control file, and the bytes of the archive of its files."""
 
     file: Path
     control: bytes
-    archive: tarfile.TarFile
+    plain: bytes
 
     @classmethod
     def read(cls, file: Path) -> Optional["SmallPackage"]:
@@ -45,21 +47,26 @@ class SmallPackage:
             return None
         try:
             with DebFile(fileobj=io.BytesIO(file.read_bytes())) as package:
-                control = _archive(package, "control.tar", _LARGEST_CONTROL)
-                archive = _archive(package, "data.tar", _LARGEST)
-                if archive is not None and not _is_small(archive):
+                control = _plain(package, "control.tar", _LARGEST_CONTROL)
+                plain = _plain(package, "data.tar", _LARGEST)
+                if plain is None or not _is_small(tarfile.open(fileobj=io.BytesIO(plain), mode="r:")):
                     return None
-            text = None if control is None else _text(control)
+            text = None if control is None else _text(tarfile.open(fileobj=io.BytesIO(control), mode="r:"))
         except _DAMAGED:
             return None
-        return None if archive is None or text is None else cls(file, text, archive)
+        return None if text is None else cls(file, text, plain)
 
 
 def small_side(packages: list[SmallPackage], root: Path) -> Side:
-    """Unpacks the packages below `root`. Raises a fault if two have the same file, or if a file lies outside of `root`."""
-    root.mkdir()
-    found = [Package(one.file, tuple(place_members(one.archive, root, one.file))) for one in packages]
-    return Side(root, tuple(library for package in found for library in libraries(package, root)))
+    """Unpacks the packages below `root`; only the first of them ships libraries. Raises a fault if two have the same file, or if one has
+    what dpkg refuses."""
+    root.mkdir(mode=0o700)
+    found = []
+    for number, one in enumerate(packages):
+        folder = root / str(number)
+        folder.mkdir(mode=0o700)
+        found.append(Package(one.file, placed(Archive(iter([one.plain]), "tar", one.file), folder, one.file)))
+    return Side.of(found, [contents_of(package) for package in found[:1]])
 
 
 def _is_small(archive: tarfile.TarFile) -> bool:
@@ -68,11 +75,11 @@ def _is_small(archive: tarfile.TarFile) -> bool:
     return sum(_LARGEST + 1 if member.islnk() else member.size for member in archive.getmembers()) <= _LARGEST
 
 
-def _archive(package: DebFile, name: str, most: int) -> Optional[tarfile.TarFile]:
-    """An archive of a package, inflated; None if it takes more memory than it may."""
-    member = package.getmember(next(one for one in package.getnames() if one.startswith(name)))
-    plain = _inflated(member.read(), member.name.removeprefix(name), most)
-    return None if plain is None else tarfile.open(fileobj=io.BytesIO(plain), mode="r:")
+def _plain(package: DebFile, name: str, most: int) -> Optional[bytes]:
+    """The bytes of an archive of a package, inflated; None if it takes more memory than it may. Of several archives dpkg takes the
+    first."""
+    member = next(one for one in package.getmembers() if one.name.startswith(name))
+    return _inflated(member.read(), member.name.removeprefix(name), most)
 
 
 def _inflated(packed: bytes, suffix: str, most: int) -> Optional[bytes]:

@@ -33,12 +33,18 @@ MOVED = " -> "
 class Work(NamedTuple):
     """Two packages to judge, old and new. Each side has names below its folder: that of the package and then those of its debug
     information, or that of one tree; or none, if the side has no such package. If `only` is not empty, only the libraries that it
-    names are judged."""
+    names are judged. `is_shared` says that other packages have the same debug information."""
 
     name: str
     old: tuple[str, ...]
     new: tuple[str, ...]
     only: tuple[str, ...] = ()
+    is_shared: bool = False
+
+    @property
+    def group(self) -> tuple[str, str]:
+        """What orders packages so that those with the same debug information follow one another."""
+        return (*self.new[1:], *self.old[1:], self.name)[0], self.name
 
 
 @dataclass(frozen=True)
@@ -109,8 +115,13 @@ class Release:
 
 def works(old: Release, new: Release) -> list[Work]:
     """The packages of both sides, paired and sorted by name."""
-    return [Work(name, old.packages.get(name, ()), new.packages.get(name, ()))
-            for name in sorted({*old.packages, *new.packages})]
+    counts = [Counter(place for places in release.packages.values() for place in places[1:]) for release in (old, new)]
+    found = []
+    for name in sorted({*old.packages, *new.packages}):
+        sides = old.packages.get(name, ()), new.packages.get(name, ())
+        is_shared = any(count[place] > 1 for count, places in zip(counts, sides) for place in places[1:])
+        found.append(Work(name, *sides, is_shared=is_shared))
+    return found
 
 
 def _package_files(folder: Path) -> Iterator[str]:

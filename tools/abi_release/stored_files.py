@@ -22,6 +22,8 @@ _BEGUN = ("started", "opened", "unfinished")
 _OWN_NAME = os.urandom(8).hex()
 _NUMBERS = itertools.count()
 _SUFFIXES = {"certificate": "cert", "report": "report"}
+# The suffix of a note on why a worker ended itself.
+_WHY = ".why"
 
 
 class Store:
@@ -108,7 +110,7 @@ class Store:
     def result(self, place: str) -> Optional[Json]:
         """The result of two libraries; None if it, or its certificate or report, is missing or damaged."""
         result = self.json(f"{place}.json")
-        if result is None or "files" not in result:
+        if result is None or not isinstance(result.get("files"), dict):
             return None
         for name, digest in result["files"].items():
             try:
@@ -139,6 +141,20 @@ class Store:
         """Notes that a task is done."""
         with contextlib.suppress(FileNotFoundError):
             os.unlink(self._started(task))
+
+    def put_why(self, task: str, reason: str) -> None:
+        """Notes why a worker ends itself over a task."""
+        Path(self._started(task) + _WHY).write_text(reason, "utf-8")
+
+    def why(self, task: str) -> str:
+        """Why a worker ended itself over a task, which then is forgotten; empty if it did not."""
+        place = Path(self._started(task) + _WHY)
+        try:
+            reason = place.read_text("utf-8")
+            place.unlink()
+        except OSError:
+            return ""
+        return reason
 
     def _started(self, task: str) -> str:
         return f"{self.folder}/started/{hashlib.sha256(os.fsencode(task)).hexdigest()}"
@@ -172,6 +188,6 @@ def app_name(hit: str, work: str) -> str:
     return f"apps/{hit} asks {work}.json"
 
 
-def result_name(old: str, new: str, rules: str) -> str:
-    """The file, without its suffix, of the result of two libraries under a rule file, by their digests."""
-    return f"results/{old[:2]}/{old}-{new}-{rules}"
+def result_name(digest: str) -> str:
+    """The file, without its suffix, of the result of two libraries: by the digest of all that it rests on."""
+    return f"results/{digest[:2]}/{digest}"

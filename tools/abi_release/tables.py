@@ -4,28 +4,37 @@ from __future__ import annotations
 
 import hashlib
 import json
+import os
 from collections import Counter
 from dataclasses import dataclass, field
-from typing import Iterator, Mapping, Sequence, TextIO
+from typing import Iterator, Optional, Protocol, Sequence, TextIO
 
 from abi_release.apps import Ask
 from abi_release.hits import Hits
-from abi_release.judging import GONE, NEW, NOT_JUDGED
+from abi_release.judging import GONE, NEW, OF_RUN, OPEN
 from abi_release.scheduling import Failure
 from abi_release.sources import MOVED, Work
-from abi_release.stored_files import Json, Store, record_name
+from abi_release.stored_files import Json, Store
+from abi_release.texts import shown
+from abi_release.unpacked import NO_DEBUG_FILE
 from abi_tools.verdicts import Verdict
 
-# The member of a line with measurements, which differ from run to run.
+# The member of a line with measurements, which differ from run to run, and those with names of files, which the program and the tools
+# change. The digest of the table is over all others: what is told.
 MEASURED = "measured"
+_UNTOLD = (MEASURED, "result", "certificate", "report")
+# The members of a line of a record from which follows who is hit.
+_OF_HITS = ("broken", "soname")
+# How many new packages that could not be read a line names.
+_MOST_UNREAD = 3
 
 
-def moved(works: Sequence[Work], store: Store, failures: Mapping[str, Failure]) -> list[Work]:
+def moved(works: Sequence[Work], run: "Ran") -> list[Work]:
     """The libraries that moved to another package, as pairs of packages to judge: a library moved if exactly one old package lost it and
     exactly one new package got it."""
     places: dict[str, dict[str, list[int]]] = {GONE: {}, NEW: {}}
     for number, work in enumerate(works):
-        record = None if work.name in failures else store.json(record_name(work.name))
+        record = run.record(work.name)
         for line in record["lines"] if record else ():
             if line["answer"] in places:
                 places[line["answer"]].setdefault(line["library"], []).append(number)
@@ -34,25 +43,36 @@ def moved(works: Sequence[Work], store: Store, failures: Mapping[str, Failure]) 
         new = places[NEW].get(library, [])
         if len(gone) == len(new) == 1:
             found.setdefault((gone[0], new[0]), []).append(library)
-    return [Work(f"{works[one].name}{MOVED}{works[two].name}", works[one].old, works[two].new, tuple(sorted(libraries)))
+    return [Work(f"{works[one].name}{MOVED}{works[two].name}", works[one].old, works[two].new, tuple(sorted(libraries)), is_shared=True)
             for (one, two), libraries in sorted(found.items())]
+
+
+class Ran(Protocol):
+    """What a run knows when its tasks are done."""
+
+    store: Store
+    failures: dict[str, Failure]
+    troubles: dict[str, dict[str, Failure]]
+
+    def record(self, name: str) -> Optional[Json]:
+        """The record of two packages, if this run made it or found that it still holds."""
 
 
 @dataclass
 class Table:
     """The lines of a run, sorted by package and by library. It holds no lines: it reads them again for each use, and counts them at
-    the start."""
+    the start. The sentences of lines are made here, from what is known by digests."""
 
     works: Sequence[Work]
     moves: Sequence[Work]
-    store: Store
-    failures: Mapping[str, Failure]
+    run: Ran
     counts: Counter[str] = field(default_factory=Counter)
 
     def __post_init__(self) -> None:
-        self.hits = Hits(self.store)
-        self._moved = {(side, library) for work in self.moves for side in work.name.split(MOVED) for library in work.only
-                       if work.name not in self.failures}
+        self.hits = Hits(self.run.store)
+        self._moved = {(side, library) for work in self.moves for side in work.name.split(MOVED) for library in work.only}
+        self._unread = [work.new[0] for work in self.works if work.new and self.run.record(work.name) is None]
+        self._given = Counter(line["library"] for record in self._all_records() for line in record["lines"] if line["answer"] == NEW)
         for record, counted in self._records():
             lines = list(counted)
             self.counts.update(line["answer"] for line in lines)
@@ -61,23 +81,44 @@ class Table:
             if MOVED not in record["name"] and record["depends"] is not None:
                 self.hits.take_needs(record)
 
+    def _all_records(self) -> Iterator[Json]:
+        for work in self.works:
+            record = self.run.record(work.name)
+            if record is not None:
+                yield record
+
     def _records(self) -> Iterator[tuple[Json, Iterator[Json]]]:
         """The record of each pair of packages, and its lines that count."""
         for work in sorted((*self.works, *self.moves)):
-            failure = self.failures.get(work.name)
-            record = None if failure else self.store.json(record_name(work.name))
+            record = self.run.record(work.name)
             if record is None:
-                failure = failure or Failure("its record is missing", 1)
-                line = {"library": None, "answer": NOT_JUDGED, "reason": failure.reason, "tries": failure.tries}
-                yield _empty(work.name), iter([line])
+                failure = self.run.failures.get(work.name) or Failure("its record is missing", 1)
+                # A library that moved is named by the record that lost it.
+                yield _empty(work.name), iter([_failed(library, failure) for library in work.only or (None,)])
             else:
-                yield record, self._counted(record)
+                yield {**record, "name": work.name}, self._counted(work, record)
 
-    def _counted(self, record: Json) -> Iterator[Json]:
+    def _counted(self, work: Work, record: Json) -> Iterator[Json]:
         """The lines of a record, without those of libraries that moved, which have a line in another record."""
+        troubles = self.run.troubles.get(work.name, {})
         for line in sorted(record["lines"], key=lambda one: str(one["library"])):
-            if line["answer"] not in (GONE, NEW) or (record["name"], line["library"]) not in self._moved:
-                yield line
+            if line["answer"] == OPEN:
+                yield _failed(line["library"], troubles.get(line["library"]) or Failure("it was not judged", 1))
+            elif line["answer"] not in (GONE, NEW):
+                yield _with_reason(line, work)
+            elif (work.name, line["library"]) not in self._moved:
+                yield self._gone(line) if line["answer"] == GONE else line
+
+    def _gone(self, line: Json) -> Json:
+        """The line of a library that the new package of the same name does not have. It is gone only if all new packages could be read
+        and none of them has got it; else nobody can tell."""
+        if self._unread:
+            more = f" and {len(self._unread) - _MOST_UNREAD} more" if len(self._unread) > _MOST_UNREAD else ""
+            names = ", ".join(os.path.basename(place) for place in self._unread[:_MOST_UNREAD])
+            return _cannot_tell(line, f"its package has lost it, and of the new packages these could not be read: {names}{more}")
+        if self._given[line["library"]]:
+            return _cannot_tell(line, "several packages have lost or got it, so it is not known which one replaces it")
+        return line
 
     def lines(self) -> Iterator[Json]:
         """All lines, with the packages that are hit."""
@@ -86,7 +127,7 @@ class Table:
             old, new = record["versions"]
             for line in lines:
                 whole = {"package": name, "versions": {"old": old, "new": new},
-                         **{key: value for key, value in line.items() if key != "broken"}}
+                         **{key: value for key, value in line.items() if key not in _OF_HITS}}
                 hit = self.hits.of(name.partition(MOVED)[0], line["library"]) if line["library"] else []
                 yield {**whole, "hit": hit} if hit else whole
 
@@ -95,11 +136,10 @@ class Table:
         return self.hits.asks({work.name: work for work in (*self.works, *self.moves)})
 
     def verdict(self) -> Verdict:
-        """No if one library has that answer or is gone; else cannot tell if one has that answer or was not judged, or if none was
-        compared; else yes."""
+        """No if one library has that answer or is gone; else cannot tell if one has that answer, or if none was compared; else yes."""
         if self.counts[Verdict.NO.words()] or self.counts[GONE]:
             return Verdict.NO
-        if self.counts[NOT_JUDGED] or self.counts[Verdict.CANNOT_TELL.words()] or not self.counts[Verdict.YES.words()]:
+        if self.counts[Verdict.CANNOT_TELL.words()] or not self.counts[Verdict.YES.words()]:
             return Verdict.CANNOT_TELL
         return Verdict.YES
 
@@ -114,18 +154,37 @@ def _empty(name: str) -> Json:
     return {"name": name, "identity": [], "versions": [None, None], "depends": None, "imports": {}}
 
 
+def _failed(library: Optional[str], failure: Failure) -> Json:
+    """The line of a library, or of two packages, that this run could not judge."""
+    return {"library": library, "answer": Verdict.CANNOT_TELL.words(), "reason": failure.reason, "tries": failure.tries}
+
+
+def _cannot_tell(line: Json, reason: str) -> Json:
+    return {**line, "answer": Verdict.CANNOT_TELL.words(), "reason": reason}
+
+
+def _with_reason(line: Json, work: Work) -> Json:
+    """The line of a library that was judged, with its reasons in one sentence."""
+    reasons = list(line.get("reasons", ()))
+    if line["answer"] != Verdict.YES.words():
+        reasons += [_unjoined(why, side, places[0]) for why, side, places in zip(
+            line.get("unjoined", ()), ("old", "new"), (work.old, work.new)) if why]
+    line = {key: value for key, value in line.items() if key not in ("reasons", "unjoined", "doubt")}
+    return {**line, "reason": "; ".join(reasons)} if reasons else line
+
+
+def _unjoined(why: str, side: str, place: str) -> str:
+    """Why a library of the package in this place was judged as it was shipped."""
+    if why != NO_DEBUG_FILE:
+        return f"{side}: {why}"
+    return f"{side} has no debug file: add the -dbgsym, -dbg or -debuginfo package of {os.path.basename(place)}"
+
+
 def text_of(line: Json) -> str:
-    """A line as text."""
-    parts = []
-    if "compared" in line:
-        parts.append(f"{line['compared']} exports compared, {line['typed']} with types")
-    if "breaks" in line:
-        count = sum(line["breaks"].values())
-        parts.append(f"{count} break{'s' if count != 1 else ''} ({', '.join(f'{rule} {times}' for rule, times in line['breaks'].items())})")
-    if "reason" in line:
-        parts.append(line["reason"])
-    if "tries" in line:
-        parts.append(f"tried {line['tries']} times")
+    """A line as text. Where nothing can be told, the reason comes first."""
+    reason = [f"{line['reason']}{', tried ' + str(line['tries']) + ' times' if 'tries' in line else ''}"] if "reason" in line else []
+    is_told = line["answer"] != Verdict.CANNOT_TELL.words()
+    parts = [*(reason if not is_told else []), *_found(line), *(reason if is_told else []), *_of_package(line)]
     if "types" in line:
         parts.append("exports with types: " + ", ".join(f"{side} {some} of {all_}" for side, (some, all_) in sorted(
             line["types"].items(), reverse=True)))
@@ -138,7 +197,26 @@ def text_of(line: Json) -> str:
             parts.append(f"{word} {len(found)} package{'s' if len(found) != 1 else ''}: {', '.join(_hit(one) for one in found[:10])}"
                          f"{', ..' if len(found) > 10 else ''}")
     named = " ".join(str(word) for word in (line["answer"], line["package"], line["library"] or "") if word)
-    return f"{named}{': ' if parts else ''}{'; '.join(parts)}"
+    return shown(f"{named}{': ' if parts else ''}{'; '.join(parts)}")
+
+
+def _found(line: Json) -> Iterator[str]:
+    """What was found, in words."""
+    if "compared" in line:
+        yield f"{line['compared']} exports compared, {line['typed']} with types"
+    if "breaks" in line:
+        count = sum(line["breaks"].values())
+        yield f"{count} break{'s' if count != 1 else ''} ({', '.join(f'{rule} {times}' for rule, times in line['breaks'].items())})"
+
+
+def _of_package(line: Json) -> Iterator[str]:
+    """The versions of the packages, and the rule file that was used and whose it is."""
+    old, new = line["versions"]["old"], line["versions"]["new"]
+    if old or new:
+        yield f"version {old}" if old == new else f"version {old or 'none'} to {new or 'none'}"
+    rules = line.get("rule_file")
+    if rules is not None:
+        yield "rule file of the run" if rules["of"] == OF_RUN else f"rule file {rules['name']} of the {rules['of']} package"
 
 
 def parted_hits(line: Json) -> tuple[list[Json], list[Json]]:
@@ -164,12 +242,12 @@ def write_text(table: Table, stream: TextIO) -> None:
 
 
 def write_json(table: Table, head: Json, stream: TextIO) -> None:
-    """Writes the table as JSON, one line of text for each line, with a digest of all lines without their measurements."""
+    """Writes the table as JSON, one line of text for each line, with a digest of what all lines tell."""
     digest = hashlib.sha256()
     stream.write(json.dumps(head, sort_keys=True)[:-1] + ', "lines": [')
     for number, line in enumerate(table.lines()):
         stream.write((",\n" if number else "\n") + json.dumps(line, sort_keys=True))
-        told = {key: value for key, value in line.items() if key != MEASURED}
+        told = {key: value for key, value in line.items() if key not in _UNTOLD}
         digest.update(json.dumps(told, sort_keys=True).encode() + b"\n")
     rest = json.dumps({"counts": table.counts, "digest": digest.hexdigest()}, sort_keys=True)
     stream.write("\n], " + rest[1:] + "\n")

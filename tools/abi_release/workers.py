@@ -1,33 +1,58 @@
-"""A worker's process: where it unpacks packages, and how much memory and time it may take."""
+"""A worker's process: where it unpacks packages, and how much memory, processor time and time by the clock it may take."""
 
 from __future__ import annotations
 
+import atexit
+import os
 import resource
+import signal
 import tempfile
+import threading
 import time
-from typing import Optional
+from pathlib import Path
+from typing import Any, Callable, NamedTuple, Optional
 
-from distributed import Worker, WorkerPlugin, get_worker
+from distributed import Worker, WorkerPlugin
+
+from abi_release.scratch import IN_MEMORY, Scratch, make_private, sweep
 
 _MEGABYTE = 1 << 20
 _PAGE = resource.getpagesize()
+_LOOKS_EVERY = 0.5
+
+
+class QuietWorker(Worker):
+    """A worker without an HTTP server."""
+
+    def start_http_server(self, *_arguments: Any, **_options: Any) -> None:
+        """Starts none."""
+
+
+class Places(NamedTuple):
+    """Where a worker may write: a folder on the disk, and one in memory for small packages (None if there is none)."""
+
+    disk: Path
+    memory: Optional[Path]
 
 
 class _Own:
-    """Whether the worker belongs to this run alone, so that the run may limit its process; and the run's folder in memory."""
+    """Whether the worker belongs to this run alone, so that the run may limit its process; its places, if the run made them; and those
+    that this process made for other runs, by run."""
 
     is_limited = False
-    memory: Optional[str] = None
+    places: Optional[Places] = None
+    made: dict[str, Scratch] = {}
+    lock = threading.Lock()
 
 
 class LimitPlugin(WorkerPlugin):
     """Limits a worker of a run's own cluster, which has one thread: to `megabytes` more than it has at the start, and to the time that
-    tasks allow. Also says where in memory the worker may unpack small packages."""
+    tasks allow. Also says where the worker may write."""
 
-    def __init__(self, megabytes: int, memory: Optional[str]) -> None:
+    def __init__(self, megabytes: int, places: Places) -> None:
         self.name = "abi-release-limits"
         self._megabytes = megabytes
-        self._memory = memory
+        self._places = places
 
     def setup(self, worker: Worker) -> None:
         """Limits the process."""
@@ -37,7 +62,79 @@ class LimitPlugin(WorkerPlugin):
         resource.setrlimit(resource.RLIMIT_AS, (at_start + self._megabytes * _MEGABYTE, most))
         resource.setrlimit(resource.RLIMIT_CORE, (0, 0))
         _Own.is_limited = True
-        _Own.memory = self._memory
+        _Own.places = self._places
+
+
+def places(run: str) -> Places:
+    """Where this process may write for a run. On a cluster that is not the run's own it makes the folder, which all workers of the run on
+    this host share."""
+    if _Own.places is not None:
+        make_private(_Own.places.disk)
+        return _Own.places
+    with _Own.lock:
+        if run not in _Own.made:
+            sweep(Path(tempfile.gettempdir()))
+            _Own.made[run] = Scratch.of_run(run, Path(tempfile.gettempdir()))
+            if len(_Own.made) == 1:
+                atexit.register(leave_all)
+        return Places(_Own.made[run].folder, None)
+
+
+def leave(run: str) -> None:
+    """Removes the folder of a run that is over, unless another process uses it."""
+    with _Own.lock:
+        made = _Own.made.pop(run, None)
+    if made is not None:
+        made.leave()
+
+
+def leave_all() -> None:
+    """The same for all runs."""
+    for run in list(_Own.made):
+        leave(run)
+
+
+def memory_parent() -> Optional[Path]:
+    """The folder of files in memory; None if there is none."""
+    return IN_MEMORY if os.access(IN_MEMORY, os.W_OK | os.X_OK) else None
+
+
+class _Clock:
+    """Ends the process when a thread works on one thing for too long by the clock, for example on a file system that does not answer.
+    Python cannot end a thread, and a thread that waits for the system takes no processor time."""
+
+    def __init__(self) -> None:
+        self._ends: dict[int, tuple[float, Callable[[], None]]] = {}
+        self._lock = threading.Lock()
+        self._thread: Optional[threading.Thread] = None
+
+    def start(self, seconds: float, last_words: Callable[[], None]) -> None:
+        """Gives the thread some seconds from now on. Calls `last_words` before it ends the process."""
+        with self._lock:
+            self._ends[threading.get_ident()] = time.monotonic() + seconds, last_words
+            if self._thread is None:
+                self._thread = threading.Thread(target=self._look, daemon=True)
+                self._thread.start()
+
+    def stop(self) -> None:
+        """Ends the thread's limit."""
+        with self._lock:
+            self._ends.pop(threading.get_ident(), None)
+
+    def _look(self) -> None:
+        while True:
+            time.sleep(_LOOKS_EVERY)
+            with self._lock:
+                late = [last_words for end, last_words in self._ends.values() if time.monotonic() > end]
+            if late:
+                # The file system of the results may be the one that does not answer.
+                words = threading.Thread(target=late[0], daemon=True)
+                words.start()
+                words.join(_LOOKS_EVERY)
+                os.kill(os.getpid(), signal.SIGKILL)
+
+
+CLOCK = _Clock()
 
 
 def allow_more_time(seconds: int) -> None:
@@ -45,16 +142,3 @@ def allow_more_time(seconds: int) -> None:
     if _Own.is_limited:
         most = resource.getrlimit(resource.RLIMIT_CPU)[1]
         resource.setrlimit(resource.RLIMIT_CPU, (int(time.process_time()) + 1 + seconds, most))
-
-
-def memory_folder() -> Optional[str]:
-    """A folder in memory, which the run removes; None if there is none."""
-    return _Own.memory
-
-
-def folder() -> str:
-    """A folder of the worker, which Dask removes when the worker ends."""
-    try:
-        return str(get_worker().local_directory)
-    except ValueError:
-        return tempfile.gettempdir()

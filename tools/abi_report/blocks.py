@@ -59,12 +59,14 @@ class Line:
 @dataclass
 class Block:
     """A changed type, function or export: its subject, its breaks with the steps from it to what broke, its lines, and those exports
-    reaching types of its members from which a search found the type itself."""
+    reaching types of its members from which a search found the type itself. `is_searched` says that a search found all exports in
+    `leading`."""
 
     subject: Subject
     found: list[tuple[Break, tuple[str, ...]]] = field(default_factory=list)
     lines: list[Line] = field(default_factory=list)
     leading: tuple[str, ...] = ()
+    is_searched: bool = False
 
     @property
     def breaks(self) -> list[Break]:
@@ -101,8 +103,8 @@ class Block:
 
     @property
     def names_all_exports(self) -> bool:
-        """Whether the document names all exports that reach the type or the types of its members."""
-        return all(one.exports for one in self.breaks)
+        """Whether the document, or a search, names all exports that reach the type or the types of its members."""
+        return self.is_searched or all(one.exports for one in self.breaks)
 
     @property
     def ways(self) -> dict[str, tuple[str, ...]]:
@@ -179,7 +181,18 @@ class Lines:
         places = (subject.old.place, subject.new.place)
         if one.rule in _FIXED:
             return Line("", "", _FIXED[one.rule], (one,), *places)
-        return Line(_WORDS.get(one.rule, one.name), "", _amount(one, change_of(one)) or one.detail, (one,), *places)
+        said = _amount(one, change_of(one)) or one.detail
+        return Line(_WORDS.get(one.rule, one.name), "", said + (self._aligned(one) if one.rule == "L4" else ""), (one,), *places)
+
+    def _aligned(self, one: Break) -> str:
+        """Names the members with the alignment of the whole type, if theirs changed, since the type may have it from them."""
+        change = change_of(one)
+        side = 0 if change.now in ("0", None) else 1
+        value = (change.was, change.now)[side]
+        others = self._members[1 - side]
+        labels = [label for label, member in self._members[side].items()
+                  if str(member.alignment) == value and (label not in others or others[label].alignment != member.alignment)]
+        return f", that of {'members' if len(labels) > 1 else 'member'} {', '.join(labels)}" if labels else ""
 
     def _part(self, head: str, found: Sequence[tuple[Break, tuple[str, ...]]]) -> Line:
         """The line on a member, an enumerator, a parameter or a result."""
@@ -210,21 +223,27 @@ class Lines:
         return ""
 
     def _beside(self, heads: set[str]) -> Iterable[Line]:
-        """The members whose size changed but that no break names, since a report has a break of two types only once; and the members
-        that only the new type has, which break nothing by themselves."""
+        """The members whose size changed, or whose type changed as that of another member did, but that no break names, since a report
+        has a break of two types only once; and the members that only the new type has, which break nothing by themselves."""
         before, after = self._members
         if self._block.subject.kind != "record" or not before or not after:
             return
+        broken = {self._cores(one.old_entry, one.new_entry) for one, rest in self._block.found if len(rest) == 1}
         for label, new in after.items():
             head = f"member {label}"
             old = before.get(label)
             if old is None:
                 said = ["added", _sizes(None, new), f"at {bit_place(new.bit)}"]
                 yield Line(head, new.declaration, ", ".join(filter(None, said)), (), *_places(None, new), (None, new))
-            elif old.width != new.width and head not in heads:
+            elif head not in heads and (old.width != new.width or self._cores(old.kind, new.kind) in broken):
                 types = old.declaration if old.declaration == new.declaration else f"{old.declaration} -> {new.declaration}"
                 said = [_sizes(old, new), _place_of_member((), old, new)]
                 yield Line(head, types, ", ".join(filter(None, said)), (), *_places(old, new), (old, new))
+
+    def _cores(self, old: Optional[int], new: Optional[int]) -> tuple[Optional[int], ...]:
+        """The entries of two types without their typedefs and qualifiers."""
+        found = (side.records.core(offset) if side.records is not None else None for side, offset in zip(self._sides, (old, new)))
+        return tuple(None if entry is None else entry.offset for entry in found)
 
     def _added_enumerators(self) -> Iterable[Line]:
         """The enumerators that only the new type has, which break nothing by themselves."""

@@ -43,7 +43,8 @@ def main(arguments: Sequence[str]) -> int:
         # The program judges while Python imports the rest of this tool and begins to read the libraries.
         from abi_report.reporting import Wanted, reported
 
-        wanted = Wanted(given.old, given.new, given.headers, given.require_types, given.certificate, given.format, given.quiet)
+        wanted = Wanted(given.old, given.new, given.headers, given.require_types, given.certificate, given.format, given.quiet,
+                        given.all, not (given.fast or given.quiet or given.rules))
         return int(reported(running, digests, wanted))
 
 
@@ -58,6 +59,8 @@ def _parser() -> Arguments:
                              "needs no other file)")
     parser.add_argument("--fast", action="store_true",
                         help="leave out what takes time: the notes on what no rule judges, and the other exports that a change reaches")
+    parser.add_argument("--all", action="store_true",
+                        help="text: have a line for each member, also for those that one change moved together (the page has them behind a click)")
     parser.add_argument("--quiet", action="store_true", help="print only the answer, in one line")
     parser.add_argument("--require-types", type=share, default=0.0, metavar="SHARE",
                         help="the percentage of compared exports that must have types in both libraries (default: at least one export)")

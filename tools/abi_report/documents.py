@@ -10,6 +10,7 @@ from typing import Any, Mapping, Optional, Sequence
 from abi_tools.faults import Fault
 
 from abi_report.runs import Running
+from abi_report.texts_shown import path_shown
 
 Json = dict[str, Any]
 FORMAT = 1
@@ -148,7 +149,7 @@ class Document:
     def place(self, side: str, entry: Optional[int]) -> Optional[Place]:
         """Where the type of an entry is declared, if the document says so."""
         found = ((self.whole.get("places") or {}).get(side) or {}).get(str(entry))
-        return None if found is None else Place(str(found["file"]), int(found["line"]))
+        return None if found is None else Place(path_shown(str(found["file"])), int(found["line"]))
 
     def type_name(self, side: str, entry: Optional[int]) -> Optional[str]:
         """The type of an entry as C writes it, if the document says so."""

@@ -15,6 +15,9 @@ from abi_report.documents import Break, Document
 
 Result = TypeVar("Result")
 
+# The exit status of `abi-json` if reading an input failed.
+_UNREAD = 3
+
 # Rules whose breaks never come from missing types, unlike those of the other rules.
 _CERTAIN = ("X1", "X2", "X3", "X4", "X5")
 
@@ -33,7 +36,8 @@ class Judged:
 def judge_document(document: Document, old: Path, new: Path, least_share: float) -> Judged:
     """The verdict of a document on two libraries."""
     if document.status not in (YES, NO):
-        words = "; ".join(note.text for note in document.notes) or document.text.strip()
+        unread = "; ".join(filter(None, map(_unread, (old, new)))) if document.status == _UNREAD else ""
+        words = unread or "; ".join(note.text for note in document.notes) or document.text.strip()
         return Judged(Verdict.CANNOT_TELL, (words or f"abi-json ended with status {document.status}",))
     if document.status == NO and any(_is_certain(one) for one in document.breaks):
         return Judged(Verdict.NO)
@@ -46,6 +50,16 @@ def judge_document(document: Document, old: Path, new: Path, least_share: float)
     judgement = judge_answer(answer, first, second, least_share)
     is_yes = document.status == YES
     return Judged(judgement.verdict, judgement.reasons, judgement.compared if is_yes else None, judgement.typed if is_yes else None)
+
+
+def _unread(path: Path) -> str:
+    """Why the system cannot read a file, with its name, as `abi` says it; empty if the system can."""
+    try:
+        with path.open("rb") as stream:
+            stream.read(1)
+        return ""
+    except OSError as error:
+        return f"{path}: {error.strerror}"
 
 
 def _is_certain(one: Break) -> bool:

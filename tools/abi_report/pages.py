@@ -8,12 +8,13 @@ from typing import Callable, Optional, Sequence, TextIO
 
 from jinja2 import Environment, FileSystemBytecodeCache, FileSystemLoader, select_autoescape
 from jinja2.bccache import Bucket
+from markupsafe import Markup
 
 from abi_report.blocks import Block
 from abi_report.layouts import BITS_OF_BYTE, Layouts, Room, layouts_of
 from abi_report.records import RECORDS
 from abi_report.reports import Report
-from abi_report.texts_shown import counted
+from abi_report.texts_shown import counted, line_shown
 from abi_report.ways import Steps, Ways
 
 _PIECES = 200
@@ -94,11 +95,16 @@ class _Kept(FileSystemBytecodeCache):
             super().dump_bytecode(bucket)
 
 
+def _finished(value: object) -> object:
+    """A value as the page has it: no text of a library may turn the direction of a sentence. What a macro made stays as it is."""
+    return "\n".join(map(line_shown, value.split("\n"))) if isinstance(value, str) and not isinstance(value, Markup) else value
+
+
 def page_writer() -> Callable[[Report, TextIO], None]:
     """A function that writes the page of a report piece by piece."""
     folder = Path(__file__).resolve().parent
     environment = Environment(loader=FileSystemLoader(folder), trim_blocks=True, lstrip_blocks=True,
-                              autoescape=select_autoescape(default=True, default_for_string=True),
+                              autoescape=select_autoescape(default=True, default_for_string=True), finalize=_finished,
                               bytecode_cache=_Kept(str(folder / "__pycache__")))
     environment.filters["arrows"] = lambda text: text.replace(" -> ", " → ")
     environment.filters["any"] = any

@@ -23,7 +23,8 @@ _PLUS_CONSTANT = 0x23
 @dataclass(frozen=True)
 class Member:
     """A member of a structure or union: its name, and which one of that name it is; its first bit and its width in bits; the offset of
-    its type's entry, and the type as C writes it; whether it is a bit field; and where it is declared."""
+    its type's entry, and the type as C writes it; whether it is a bit field; where it is declared; and the alignment in bytes that its
+    declaration or its type asks for, 0 if neither does."""
 
     name: str
     number: int
@@ -33,6 +34,7 @@ class Member:
     type_name: str
     is_bit_field: bool
     place: Optional[Place]
+    alignment: int = 0
 
     @property
     def label(self) -> str:
@@ -125,7 +127,22 @@ class Records:
     def _member(self, entry: Entry, bit: int, width: int, found: Sequence[Member]) -> Member:
         name = entry.name or ""
         number = 1 + sum(member.name == name for member in found)
-        return Member(name, number, bit, width, entry.kind, self.names.of(entry.kind), "bit_size" in entry.values, self.place(entry))
+        return Member(name, number, bit, width, entry.kind, self.names.of(entry.kind), "bit_size" in entry.values, self.place(entry),
+                      self._alignment(entry))
+
+    def _alignment(self, member: Entry) -> int:
+        """The alignment that a member or its type asks for (DWARF 5, 2.24)."""
+        entry: Optional[Entry] = member
+        for _ in range(_DEEPEST):
+            if entry is None:
+                return 0
+            found = entry.number("alignment")
+            if found:
+                return found
+            if entry.tag != "member" and entry.tag not in _WRAPPERS and entry.tag != "array_type":
+                return 0
+            entry = self.entries.at(entry.kind)
+        return 0
 
     def _bits(self, member: Entry) -> tuple[int, int]:
         """The first bit of a member in its structure, and its width in bits (DWARF 5, 5.7.6; DWARF 4, 5.5.6)."""

@@ -26,7 +26,8 @@ _OPENED = 2
 @dataclass(frozen=True)
 class Wanted:
     """What the arguments ask for: both libraries, the folder of the public headers, the least share of exports with types, the file for
-    the certificate, the form, and whether to print the answer alone."""
+    the certificate, the form, whether to print the answer alone, whether the text has a line for each member that another change only moved, and
+    whether exports are searched for that the document does not name."""
 
     old: Path
     new: Path
@@ -35,11 +36,13 @@ class Wanted:
     certificate: Optional[Path]
     form: str
     quiet: bool
+    is_whole: bool = False
+    searches: bool = False
 
 
 def reported(running: Running, digests: Optional[Digests], wanted: Wanted) -> Verdict:
     """Writes the report of a run, and returns the verdict."""
-    write = writer_of(wanted.form, wanted.quiet)
+    write = writer_of(wanted.form, wanted.quiet, wanted.is_whole)
     libraries = (Library(wanted.old), Library(wanted.new))
     if not wanted.quiet:
         for library in libraries:
@@ -48,7 +51,7 @@ def reported(running: Running, digests: Optional[Digests], wanted: Wanted) -> Ve
     if digests is not None:
         _put_digests(document, digests)
     judged = judge_document(document, wanted.old, wanted.new, wanted.require_types)
-    report = Report(document, judged, libraries, Headers(wanted.headers))
+    report = Report(document, judged, libraries, Headers(wanted.headers), wanted.searches)
     if wanted.certificate is not None and judged.verdict == Verdict.YES:
         write_whole(wanted.certificate, document.text.encode())
     write(report)
@@ -61,7 +64,7 @@ def _put_digests(document: Document, digests: Digests) -> None:
         one["sha256"] = one["sha256"] or digests.of(one["name"])
 
 
-def writer_of(form: str, quiet: bool) -> Write:
+def writer_of(form: str, quiet: bool, is_whole: bool = False) -> Write:
     """A function that writes a report in this form to standard output."""
     if form == "json" and not quiet:
         return _write_document
@@ -73,7 +76,7 @@ def writer_of(form: str, quiet: bool) -> Write:
         return lambda report: write_page(report, sys.stdout)
     from abi_report.texts import write_text
 
-    return lambda report: write_text(report, sys.stdout, quiet)
+    return lambda report: write_text(report, sys.stdout, quiet, is_whole)
 
 
 def _write_document(report: Report) -> None:

@@ -14,6 +14,9 @@ from abi_report.blocks import Block, Line, blocks_of
 from abi_report.causes import Causes
 from abi_report.documents import SUCCESSOR, Break, Document, Json, Note, Place
 from abi_report.judging import Judged, labels_of
+from abi_report.positions import Steps, positions
+from abi_report.reaching import Reaching
+from abi_report.rows import Row, rows_of
 from abi_report.rule_sections import Headers, rule_section
 from abi_report.subjects import Described, Library, Side
 from abi_report.successors import Successors
@@ -41,7 +44,10 @@ class Gone:
 class Report:
     """A report on two libraries."""
 
-    def __init__(self, document: Document, judged: Judged, libraries: tuple[Library, Library], headers: Headers) -> None:
+    def __init__(self, document: Document, judged: Judged, libraries: tuple[Library, Library], headers: Headers,
+                 searches: bool = False) -> None:
+        """Takes a document, its verdict, both libraries and the public headers. With `searches`, the exports that reach a structure are
+        searched for if the document does not name them."""
         self.document = document
         self.judged = judged
         self.old, self.new = (Side(document, side, library) for side, library in zip(("old", "new"), libraries))
@@ -50,7 +56,17 @@ class Report:
         ways = Ways(self.old, [(block, block.member_exports) for block in self.blocks if not block.is_exact])
         for block in self.blocks:
             block.leading = tuple(export for export in block.member_exports if ways.of(block, export) is not None)
+        if searches and any(block.subject.kind == "record" and not block.names_all_exports for block in self.blocks):
+            self._search()
         self._shown: dict[tuple[str, ...], Block] = {}
+
+    def _search(self) -> None:
+        """Finds the exports that reach each structure."""
+        found = Reaching(self.old, labels_of(self.old.path, self.new.path)[0])
+        for block in self.blocks:
+            exports = found.of(self.old.records, block.subject.old.entry) if block.subject.kind == "record" else None
+            if exports and not block.names_all_exports:
+                block.leading, block.is_searched = exports, True
 
     @property
     def answer(self) -> str:
@@ -80,8 +96,10 @@ class Report:
 
     @cached_property
     def causes(self) -> Causes:
-        """The causes of what changed."""
-        return Causes([block for block in self.blocks if block.subject.kind in _KINDS], self.old, self.new)
+        """The causes of what changed. Types that callers see stand before those that they do not see, since a change is reported at the
+        shortest path, which may lead through a type that callers do not see."""
+        blocks = [block for block in self.blocks if block.subject.kind in _KINDS]
+        return Causes(sorted(blocks, key=lambda block: self.section(block) is not None), self.old, self.new)
 
     @cached_property
     def types(self) -> list[Block]:
@@ -253,13 +271,23 @@ class Report:
         """The rules that are broken, with their plain names."""
         return sorted(self._rule_names.items(), key=lambda one: (one[0][0] != "X", int(one[0][1:])))
 
-    def line_places(self, block: Block) -> list[str]:
-        """Where the part of each line is declared, if that is not the block's place."""
+    def rows(self, block: Block, is_whole: bool = False) -> list[tuple[Row, str]]:
+        """The rows of a block, each with the place of its line. With `is_whole` no line stands for others."""
+        rows = [Row(line) for line in block.lines] if is_whole else rows_of(block.lines)
+        return [(row, self.line_place(block, row.line)) for row in rows]
+
+    def line_place(self, block: Block, line: Line) -> str:
+        """Where the part of a line is declared, if that is not the block's place."""
         old, new = block.subject.old.place, block.subject.new.place
         # If only one library has the part, only that library's place counts.
-        own = [self.places(line.old_place and old, line.new_place and new) for line in block.lines]
-        found = [self.places(line.old_place, line.new_place) if line.head else "" for line in block.lines]
-        return ["" if one == other else one for one, other in zip(found, own)]
+        own = self.places(line.old_place and old, line.new_place and new)
+        found = self.places(line.old_place, line.new_place) if line.head else ""
+        return "" if found == own else found
+
+    def positions(self, block: Block, export: str) -> list[Steps]:
+        """The steps from an export to each place of its signature where the changed type stands. Only types that are no structures need
+        it: a structure is named wherever it stands."""
+        return positions(self.old, self.new, export, block.subject) if block.subject.kind == "type" else []
 
     def place(self, side: Side, place: Optional[Place]) -> Optional[str]:
         """A place as the report shows it: without the folder that all places of the library share, and marked if it is a definition."""

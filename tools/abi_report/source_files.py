@@ -9,7 +9,7 @@ from typing import Mapping, Optional, Sequence
 from abi_tools.dwarf_tables import FORM_NAMES, read_number
 from abi_tools.faults import Fault
 
-from abi_report.texts_shown import shown
+from abi_report.texts_shown import path_shown, shown
 
 _TWO = struct.Struct("<H")
 _FOUR = struct.Struct("<I")
@@ -98,4 +98,4 @@ def _number(value: object) -> int:
 
 
 def _joined(home: str, folder: str, name: str) -> str:
-    return str(PurePosixPath(home, folder, name))
+    return path_shown(str(PurePosixPath(home, folder, name)))

@@ -10,7 +10,7 @@ from abi_tools.verdicts import Verdict
 from abi_report.blocks import Block
 from abi_report.documents import Note
 from abi_report.reports import Report
-from abi_report.texts_shown import counted
+from abi_report.texts_shown import counted, line_shown
 
 # A piece of a line: the text, and its style on a terminal, as a style of rich.
 Piece = tuple[str, str]
@@ -27,14 +27,14 @@ _NAMED = 12
 _NOTED = 10
 
 
-def write_text(report: Report, stream: TextIO, quiet: bool) -> None:
-    """Writes the report."""
-    lines: Iterable[Words] = [_answer(report)] if quiet else _lines(report)
+def write_text(report: Report, stream: TextIO, quiet: bool, is_whole: bool = False) -> None:
+    """Writes the report: the answer alone if `quiet`, and each member that another change only moved if `is_whole`."""
+    lines: Iterable[Words] = [_answer(report)] if quiet else _lines(report, is_whole)
     if stream.isatty():
         _write_coloured(lines, stream)
         return
     for words in lines:
-        stream.write("".join(text for text, _ in words).rstrip() + "\n")
+        stream.write(line_shown("".join(text for text, _ in words).rstrip()) + "\n")
 
 
 def _write_coloured(lines: Iterable[Words], stream: TextIO) -> None:
@@ -44,14 +44,14 @@ def _write_coloured(lines: Iterable[Words], stream: TextIO) -> None:
 
     console = Console(file=stream, highlight=False)
     for words in lines:
-        console.print(Text.assemble(*words), soft_wrap=True)
+        console.print(Text.assemble(*((line_shown(text), style) for text, style in words)), soft_wrap=True)
 
 
 def _answer(report: Report) -> Words:
     return [(report.answer, _COLOURS[report.judged.verdict]), (f": {report.sentence}", "bold")]
 
 
-def _lines(report: Report) -> Iterator[Words]:
+def _lines(report: Report, is_whole: bool) -> Iterator[Words]:
     """The lines: first the answer, then what changed, and last what was compared."""
     yield _answer(report)
     if report.found:
@@ -64,21 +64,23 @@ def _lines(report: Report) -> Iterator[Words]:
         yield [(_WAYS, "")]
     for block in [*report.types, *report.others]:
         yield []
-        yield from _block(report, block)
+        yield from _block(report, block, is_whole)
     yield from _gone(report)
     yield from _listed("Notes", [line for kind, notes in report.notes for line in _of_kind(report, kind, notes)])
     yield from _listed("Compared", report.compared)
 
 
-def _block(report: Report, block: Block) -> Iterator[Words]:
+def _block(report: Report, block: Block, is_whole: bool) -> Iterator[Words]:
     subject = block.subject
     places = report.export_places(block) if subject.kind == "export" else (subject.old.place, subject.new.place)
     place = report.places(*places)
     yield [(block.title, "bold"), (f"  {place}" if place else "", "cyan")]
     yield from _because(report, block)
-    for line, where in zip(block.lines, report.line_places(block)):
+    for row, where in report.rows(block, is_whole):
+        line = row.line
         yield [(f"  {' '.join(line.rules):<{_RULES_WIDTH}} ", "red" if line.rules else ""),
-               (f"{line.head}: " if line.head else "", "bold" if line.rules else ""), (line.text, ""),
+               (f"{line.head}: " if line.head else "", "bold" if line.rules else ""),
+               (f"{line.text}{' (--all lists them)' if row.folded else ''}", ""),
                (f"  {where}" if where else "", "cyan")]
     if subject.kind != "library":
         yield from _reached(report, block)
@@ -100,8 +102,9 @@ def _reached(report: Report, block: Block) -> Iterator[Words]:
     if block.steps or block.subject.kind == "type":
         has_place = block.subject.old.place or block.subject.new.place
         place = "" if has_place else report.places(*report.export_places(block))
-        yield [("  by way of ", ""), (" / ".join((block.first.export, *(block.steps or block.first.steps))), "magenta"),
-               (f"  {place}" if place else "", "cyan")]
+        ways = [block.steps or block.first.steps, *report.positions(block, block.first.export)]
+        words = ", ".join(" / ".join((block.first.export, *steps)) for steps in dict.fromkeys(ways))
+        yield [("  by way of ", ""), (words, "magenta"), (f"  {place}" if place else "", "cyan")]
 
 
 def _because(report: Report, block: Block) -> Iterator[Words]:

@@ -91,10 +91,10 @@ def reached(records: Records, start: Entry, limit: int) -> Iterator[tuple[Entry,
             continue
         seen.add(entry.offset)
         yield entry, steps
-        waiting += [(below, (*steps, *step)) for step, below in _below(records, entry)]
+        waiting += [(below, (*steps, *step)) for step, below in below(records, entry)]
 
 
-def _below(records: Records, entry: Entry) -> Iterator[tuple[Steps, Optional[int]]]:
+def below(records: Records, entry: Entry) -> Iterator[tuple[Steps, Optional[int]]]:
     """The types one step from a type; a typedef or qualifier takes no step."""
     if entry.tag == "pointer_type":
         yield ("target",), entry.kind

@@ -2,3 +2,6 @@
 
 Nothing here judges a library. `abi` does, and the tools show its answer.
 """
+
+# The release of which the tools are a part (CHANGELOG.md).
+VERSION = "0.1.0"

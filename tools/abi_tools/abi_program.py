@@ -9,7 +9,7 @@ from dataclasses import dataclass
 from pathlib import Path
 from typing import Optional
 
-from abi_tools.faults import Fault
+from abi_tools.faults import Fault, said_of_signal
 
 YES = 0
 NO = 1
@@ -35,10 +35,15 @@ class Answer:
         lines = (line.split() for line in self.text.splitlines())
         return [(int(words[1]), int(words[2])) for words in lines if words[:1] == ["bind"]]
 
+    @property
+    def is_answer(self) -> bool:
+        """Whether the program said yes or no: its status and the first line of its text agree."""
+        return self.text.startswith({YES: "yes ", NO: "no\n"}.get(self.status, "\0"))
+
     def why(self) -> str:
         """Why there is neither a yes nor a no, in the program's own words if it printed any."""
         if self.status < 0:
-            return f"the signal {-self.status} ended abi"
+            return f"abi gave no answer: {said_of_signal(-self.status)}"
         said = "; ".join(line.removeprefix("abi: ") for line in self.notes.splitlines()) or self.text.strip()
         return said or f"abi ended with status {self.status}"
 

@@ -3,9 +3,12 @@
 from __future__ import annotations
 
 import argparse
-from typing import NoReturn
+from typing import Any, NoReturn
 
+from abi_tools import VERSION
 from abi_tools.faults import WRONG_ARGUMENTS
+from abi_tools.limits import LIMITS
+from abi_tools.shown import lines_shown
 
 
 class Arguments(argparse.ArgumentParser):
@@ -13,12 +16,15 @@ class Arguments(argparse.ArgumentParser):
 
     def __init__(self, tool: str, description: str, statuses: str, wrong: int = WRONG_ARGUMENTS) -> None:
         super().__init__(prog=tool, description=description, epilog=statuses, allow_abbrev=False,
+                         # a tool may have a --version of its own, with a value
+                         conflict_handler="resolve",
                          formatter_class=argparse.RawDescriptionHelpFormatter)
+        self.add_argument("--version", action="version", version=f"{tool} {VERSION}", help="print the version, and exit")
         self._wrong = wrong
 
     def error(self, message: str) -> NoReturn:
         """Prints the usage and what is wrong, and ends the program."""
-        self.exit(self._wrong, f"{self.format_usage()}{self.prog}: {message}\n")
+        self.exit(self._wrong, lines_shown(f"{self.format_usage()}{self.prog}: {message}\n"))
 
 
 def share(text: str) -> float:
@@ -27,3 +33,23 @@ def share(text: str) -> float:
     if not 0 <= value <= 100:
         raise argparse.ArgumentTypeError(f"{text} is no share of 100")
     return value
+
+
+def number_above_0(text: str) -> int:
+    """A number above 0. Raises an argument error for any other."""
+    value = int(text)
+    if value < 1:
+        raise argparse.ArgumentTypeError(f"{text} is not above 0")
+    return value
+
+
+class ShowLimits(argparse.Action):
+    """Prints the limits of the tools, and ends the program."""
+
+    def __init__(self, option_strings: list[str], dest: str, help: str) -> None:  # pylint: disable=redefined-builtin
+        super().__init__(option_strings, argparse.SUPPRESS, nargs=0, help=help)
+
+    def __call__(self, parser: argparse.ArgumentParser, *_: Any) -> None:
+        lines = [f"{limit.value:>12,} {limit.unit:<8} {limit.what}\n" for limit in LIMITS]
+        print("".join(lines), end="")
+        parser.exit()

@@ -24,10 +24,10 @@ def baseline(library: ElfFile) -> bytes:
     """The smallest file that `abi` judges as it judges the library. Raises a fault if the library is not a shared object, is damaged,
     or refers to a supplementary file."""
     if not library.is_shared_object:
-        raise Fault(f"{library.path} is no shared object for x86-64")
+        raise Fault(f"{library.name} is no shared object for x86-64")
     debug = library.debug_sections()
-    if leads_out(DebugSections(str(library.path), {name: contents for name, (_, contents) in debug.items()})):
-        raise Fault(f"{library.path} refers to a supplementary file (dwz -m): join both by join-debug first")
+    if leads_out(DebugSections(library.name, {name: contents for name, (_, contents) in debug.items()})):
+        raise Fault(f"{library.name} refers to a supplementary file (dwz -m): join both by join-debug first")
     return sections_alone(library, list(_kept(library)))
 
 

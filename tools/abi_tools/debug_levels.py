@@ -57,8 +57,8 @@ class Levels:
     def __init__(self, file: ElfFile) -> None:
         """Finds out which units have types. Raises a fault if this meets damaged debug information."""
         self._sections = DebugContents(file)
-        self._tables = Tables(self._sections.get(".debug_abbrev", b""), f"{file.path}: .debug_abbrev")
-        where = f"{file.path}: .debug_info"
+        self._tables = Tables(self._sections.get(".debug_abbrev", b""), f"{file.name}: .debug_abbrev")
+        where = f"{file.name}: .debug_info"
         info = self._sections.get(".debug_info", b"")
         found = [(unit, _types_of(info, unit, self._tables.at(unit.table), where)) for unit in units(info, where)]
         are_anywhere = any(types is _Types.HERE for _, types in found)

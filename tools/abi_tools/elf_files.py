@@ -135,19 +135,22 @@ class SupplementaryLink:
 class ElfFile:
     """A little-endian ELF-64 file. All its sections lie inside it."""
 
-    def __init__(self, path: Path) -> None:
-        """Reads the headers. Raises a fault if the file is missing or damaged, or of another class or byte order."""
+    def __init__(self, path: Path, name: str = "") -> None:
+        """Reads the headers. Faults call the file `name`, or else by its path. Raises a fault if the file is missing or damaged, or of
+        another class or byte order."""
         self.path = path
+        self.name = name or str(path)
         if not path.is_file():
-            raise Fault(f"there is no file {path}")
-        self._file = os.open(path, os.O_RDONLY | os.O_CLOEXEC)
+            raise Fault(f"there is no file {self.name}")
+        # If a FIFO or a device has taken the file's place since then, opening it must not wait.
+        self._file = os.open(path, os.O_RDONLY | os.O_CLOEXEC | os.O_NONBLOCK)
         weakref.finalize(self, os.close, self._file)
         self.size = os.fstat(self._file).st_size
         self.header = self._read_header()
         try:
             self.sections = list(self._read_sections())
         except DAMAGED as error:
-            raise Fault(f"{path} is no ELF file, or is damaged in its headers") from error
+            raise Fault(f"{self.name} is no ELF file, or is damaged in its headers") from error
         self._check_ranges()
 
     def _bytes(self, offset: int, size: int) -> bytes:
@@ -156,7 +159,7 @@ class ElfFile:
         while size > 0:
             part = os.pread(self._file, size, offset)
             if not part:
-                raise Fault(f"{self.path} is cut short")
+                raise Fault(f"{self.name} is cut short")
             parts.append(part)
             offset, size = offset + len(part), size - len(part)
         return b"".join(parts)
@@ -169,13 +172,13 @@ class ElfFile:
     def _read_header(self) -> Header:
         start = self._bytes(0, min(self.size, _HEADER.size))
         if not start.startswith(_MAGIC) or len(start) < _HEADER.size:
-            raise Fault(f"{self.path} is no ELF file")
+            raise Fault(f"{self.name} is no ELF file")
         header = Header(*_HEADER.unpack(start))
         is_64 = start[_CLASS_AT] == _CLASS_64
         if is_64 and header.sections_at + header.section_size * header.sections > self.size:
-            raise Fault(f"{self.path} is cut short: its table of sections extends past the end of the file")
+            raise Fault(f"{self.name} is cut short: its table of sections extends past the end of the file")
         if not is_64 or start[_ORDER_AT] != _LITTLE_ENDIAN:
-            raise Fault(f"{self.path} is no ELF-64 file in little endian")
+            raise Fault(f"{self.name} is no ELF-64 file in little endian")
         return header
 
     def _read_sections(self) -> Iterator[Section]:
@@ -214,10 +217,10 @@ class ElfFile:
 
     def _check_ranges(self) -> None:
         if not self.sections:
-            raise Fault(f"{self.path} has no sections")
+            raise Fault(f"{self.name} has no sections")
         for section in self.sections:
             if section.holds_bytes and section.offset + section.size > self.size:
-                raise Fault(f"{self.path} is cut short: its section {section.name} extends past the end of the file")
+                raise Fault(f"{self.name} is cut short: its section {section.name} extends past the end of the file")
 
     def segments_end(self) -> int:
         """Where the program headers and the segments end in the file. Raises a fault if the program headers are damaged."""
@@ -227,8 +230,8 @@ class ElfFile:
             table = self._bytes(header.segments_at, count * header.segment_size)
             rows = [_SEGMENT.unpack_from(table, number * header.segment_size) for number in range(count)]
         except (struct.error, OverflowError, Fault) as error:
-            raise Fault(f"{self.path} is damaged in its program headers") from error
-        return max([header.segments_at + len(table), *(sum(row) for row in rows)])
+            raise Fault(f"{self.name} is damaged in its program headers") from error
+        return max([int(header.segments_at) + len(table), *(int(sum(row)) for row in rows)])
 
     def first(self, name: str) -> Optional[Section]:
         """The first section of this name that has bytes; None if there is none."""
@@ -243,7 +246,7 @@ class ElfFile:
 
     def contents(self, section: Section) -> bytes:
         """The bytes of a section, inflated if they are compressed. Raises a fault if they cannot be inflated."""
-        where = f"{self.path}: the section {section.name}"
+        where = f"{self.name}: the section {section.name}"
         if section.flags & SHF_COMPRESSED:
             return inflate(self.raw(section), where)
         if section.name.startswith(".zdebug_"):
@@ -278,7 +281,7 @@ class ElfFile:
                     if (name, kind) == (_GNU, _NT_GNU_BUILD_ID) and len(described) in _BUILD_ID_LENGTHS:
                         return described
             except DAMAGED as error:
-                raise Fault(f"{self.path}: the note with the build id is damaged") from error
+                raise Fault(f"{self.name}: the note with the build id is damaged") from error
         return None
 
     @property
@@ -289,7 +292,7 @@ class ElfFile:
             return None
         name, rest = parted
         if len(rest) < 4:
-            raise Fault(f"{self.path}: the section .gnu_debuglink is damaged")
+            raise Fault(f"{self.name}: the section .gnu_debuglink is damaged")
         return DebugLink(name, int.from_bytes(rest[-4:], "little"))
 
     @property
@@ -302,7 +305,7 @@ class ElfFile:
             return None if standard is None or standard[0] else standard[1]
         name, rest = parted
         if len(rest) not in _BUILD_ID_LENGTHS:
-            raise Fault(f"{self.path}: the section .gnu_debugaltlink is damaged")
+            raise Fault(f"{self.name}: the section .gnu_debugaltlink is damaged")
         return SupplementaryLink(name, rest)
 
     @property
@@ -321,7 +324,7 @@ class ElfFile:
         contents = self.contents(section)
         name, end, rest = contents[3:].partition(b"\0")
         if not end or not rest or rest[0] not in _BUILD_ID_LENGTHS or len(rest) < 1 + rest[0]:
-            raise Fault(f"{self.path}: the section .debug_sup is damaged")
+            raise Fault(f"{self.name}: the section .debug_sup is damaged")
         link = SupplementaryLink(name.decode("utf-8", "surrogateescape"), rest[1:1 + rest[0]])
         return contents[2] != 0, link
 
@@ -332,7 +335,7 @@ class ElfFile:
             return None
         file, end, rest = self.contents(section).partition(b"\0")
         if not end or not file:
-            raise Fault(f"{self.path}: the section {name} is damaged")
+            raise Fault(f"{self.name}: the section {name} is damaged")
         return file.decode("utf-8", "surrogateescape"), rest
 
     @property
@@ -359,7 +362,7 @@ class ElfFile:
                     if tag in (_DT_NEEDED, _DT_SONAME):
                         yield tag, _text(self.raw(self.sections[section.link]), value)
         except DAMAGED as error:
-            raise Fault(f"{self.path}: the dynamic table is damaged") from error
+            raise Fault(f"{self.name}: the dynamic table is damaged") from error
 
     def imports(self) -> Iterator[tuple[str, Optional[tuple[str, str]]]]:
         """The names of the undefined dynamic symbols, each with the file and version that it needs, if it needs one. Raises a fault if a
@@ -374,7 +377,7 @@ class ElfFile:
                 if symbol[3] == _SHN_UNDEF and name:
                     yield name, versions.get(indexes[number] if number < len(indexes) else 0)
         except DAMAGED as error:
-            raise Fault(f"{self.path}: a table of dynamic symbols or of their versions is damaged") from error
+            raise Fault(f"{self.name}: a table of dynamic symbols or of their versions is damaged") from error
 
     def _needed_versions(self) -> Iterator[tuple[int, tuple[str, str]]]:
         """The versions that the file needs from other files, by index: the other file and the version (GNU symbol versioning)."""
@@ -409,7 +412,7 @@ class ElfFile:
             for section in self._of_kind(SHT_DYNSYM):
                 return self.raw(self.sections[section.link]), list(_SYMBOL.iter_unpack(self.raw(section)))
         except DAMAGED as error:
-            raise Fault(f"{self.path}: the table of dynamic symbols is damaged") from error
+            raise Fault(f"{self.name}: the table of dynamic symbols is damaged") from error
         return b"", []
 
 

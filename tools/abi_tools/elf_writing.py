@@ -56,7 +56,7 @@ def with_sections(library: ElfFile, dropped: Collection[str], added: Sequence[Ad
     `dropped` lose their contents, name and type. Raises a fault if there are too many sections."""
     kept = [_NONE if section.name in dropped else section for section in library.sections]
     if len(kept) + len(added) >= _RESERVED_NUMBERS:
-        raise Fault(f"{library.path} has too many sections")
+        raise Fault(f"{library.name} has too many sections")
     image = bytearray(library.data[:_kept_end(library, kept)])
     placed = []
     for section in added:

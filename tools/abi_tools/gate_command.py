@@ -12,6 +12,7 @@ from abi_tools.abi_program import Abi
 from abi_tools.arguments import Arguments, share
 from abi_tools.gates import Judgement, judge
 from abi_tools.output_file import clear_output, write_whole
+from abi_tools.shown import line_shown, lines_shown
 from abi_tools.verdicts import Verdict
 
 _DESCRIPTION = """\
@@ -20,17 +21,17 @@ cannot tell. `abi` is the one that the variable ABI names, or else the one on th
 """
 _STATUSES = """\
 Exit status:
-  0  yes: the new library may replace the old one
-  1  no: the report of abi is printed, and on standard error the command that shows the changed types
-  2  it cannot tell, and a line says why: an input is refused or missing, exports lost their types with the debug information
-     (stripped, -g1), nothing was compared, no types were compared, or fewer than --require-types asks for; also if the
-     arguments are wrong
+  0   yes: the new library may replace the old one
+  1   no: the report of abi is printed, and on standard error the command that shows the changed types
+  2   it cannot tell, and a line says why: an input is refused or missing, exports lost their types with the debug information
+      (stripped, -g1), nothing was compared, no types were compared, or fewer than --require-types asks for
+  64  the arguments are wrong
 """
 
 
 def main(arguments: Sequence[str]) -> int:
     """Judges as the arguments say, prints the answer, and returns the verdict."""
-    parser = Arguments("abi-gate", _DESCRIPTION, _STATUSES, wrong=Verdict.CANNOT_TELL)
+    parser = Arguments("abi-gate", _DESCRIPTION, _STATUSES)
     parser.add_argument("--rules", type=Path, metavar="FILE", help="a rule file of abi, which says what is not compared")
     parser.add_argument("--require-types", type=share, default=0.0, metavar="SHARE",
                         help="the percentage of compared exports that must have types in both libraries (default: at least one export)")
@@ -58,14 +59,14 @@ def _judged(given: argparse.Namespace) -> Judgement:
 def _show(judgement: Judgement, given: argparse.Namespace) -> None:
     """Prints the answer for people."""
     if judgement.answer is not None and judgement.verdict != Verdict.CANNOT_TELL:
-        sys.stderr.write(judgement.answer.notes)
+        sys.stderr.write(lines_shown(judgement.answer.notes))
     if judgement.verdict == Verdict.YES:
         print(f"yes: {judgement.compared} exports compared, {judgement.typed} with types")
     elif judgement.verdict == Verdict.NO and judgement.answer is not None:
-        sys.stdout.write(judgement.answer.text)
+        sys.stdout.write(lines_shown(judgement.answer.text))
         sys.stdout.flush()
         options = [] if given.rules is None else ["--rules", str(given.rules)]
         command = shlex.join(["abi-report", *options, str(given.old), str(given.new)])
-        print(f"abi-gate: {given.new} may not replace {given.old}; see {command}", file=sys.stderr)
+        print(line_shown(f"abi-gate: {given.new} may not replace {given.old}; see {command}"), file=sys.stderr)
     for reason in judgement.reasons:
-        print(f"cannot tell: {reason}")
+        print(line_shown(f"cannot tell: {reason}"))

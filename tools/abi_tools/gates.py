@@ -11,7 +11,7 @@ from functools import cached_property
 from pathlib import Path
 from typing import Optional, Sequence
 
-from abi_tools.abi_program import NO, YES, Abi, Answer, Export
+from abi_tools.abi_program import NO, Abi, Answer, Export
 from abi_tools.counting import counted
 from abi_tools.debug_levels import Levels
 from abi_tools.elf_files import ElfFile
@@ -84,7 +84,7 @@ def judge(abi: Abi, old_path: Path, new_path: Path, rules: Optional[Path], least
     """The verdict on two libraries. At least `least_share` percent of the compared exports must have types. If `abi` refuses an input
     or dies, the gate cannot tell."""
     answer = abi.check(old_path, new_path, rules)
-    if answer.status not in (YES, NO):
+    if not answer.is_answer:
         return Judgement(Verdict.CANNOT_TELL, (answer.why(),), answer)
     try:
         old, new = Library.read(abi, old_path), Library.read(abi, new_path)
@@ -99,9 +99,9 @@ def judge_answer(answer: Answer, old: Library, new: Library, least_share: float 
 
 
 def _of_yes(answer: Answer, old: Library, new: Library, least_share: float) -> Judgement:
-    """The verdict if `abi` said yes."""
+    """The verdict if `abi` said yes. Exports of size 0, as assembler has them, count only if there are no others."""
     bound = [(old.exports[one], new.exports[two]) for one, two in answer.bound]
-    counted = [(one, two) for one, two in bound if one.size]
+    counted = [(one, two) for one, two in bound if one.size] or bound
     typed = sum(old.has_types(one) and new.has_types(two) for one, two in counted)
     lost = sum(old.has_types(one) and new.lacks_types(two) for one, two in bound)
     reasons = []
@@ -109,10 +109,11 @@ def _of_yes(answer: Answer, old: Library, new: Library, least_share: float) -> J
         reasons.append("nothing was compared: no export of the old library, or none that the rule file does not leave out")
     elif lost:
         reasons.append(_lost(lost, f"{new.path} {new.levels.reason()}"))
-    elif counted and not typed:
+    elif not typed:
         reasons.append(f"no types were compared: {_without_types(old, new)}")
-    elif counted and 100 * typed < least_share * len(counted):
-        reasons.append(f"{typed} of {len(counted)} exports have types in both libraries, which is less than {least_share:g} of 100: {_untyped(counted, old, new)}")
+    elif 100 * typed < least_share * len(counted):
+        reasons.append(f"{typed} of {len(counted)} exports have types in both libraries, which is less than {least_share:g} of 100: "
+                       f"{_untyped(counted, old, new)}")
     verdict = Verdict.CANNOT_TELL if reasons else Verdict.YES
     return Judgement(verdict, tuple(reasons), answer, len(bound), typed, old, new)
 
@@ -159,4 +160,6 @@ def _untyped(pairs: Sequence[tuple[Export, Export]], old: Library, new: Library)
 def _without_types(old: Library, new: Library) -> str:
     """Says which library has no types, and why."""
     untyped = [library for library in (old, new) if not library.typed_count()[0]] or [old, new]
+    if all(not export.size for export in old.exports.values()):
+        return f"all exports of {old.path} have size 0, as in assembler without .size, and no types"
     return ", and ".join(f"{one.path} {one.levels.reason()}" for one in untyped)

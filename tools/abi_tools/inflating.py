@@ -6,6 +6,7 @@ import struct
 import zlib
 
 from abi_tools.faults import Fault
+from abi_tools.limits import LARGEST_FILE
 
 SHF_COMPRESSED = 0x800
 # Elf64_Chdr: ch_type, ch_reserved, ch_size, ch_addralign.
@@ -15,8 +16,6 @@ _ZSTD = 2
 # A `.zdebug_` section begins with these bytes, followed by its size in big endian.
 _OLD_MAGIC = b"ZLIB"
 _OLD_HEADER = struct.Struct(">4sQ")
-# `abi` refuses larger files, so larger sections are not inflated.
-LARGEST = 1 << 32
 
 
 def inflate(contents: bytes, where: str) -> bytes:
@@ -37,7 +36,7 @@ def inflate_old(contents: bytes, where: str) -> bytes:
 
 
 def _inflated(kind: int, packed: bytes, size: int, where: str) -> bytes:
-    if size > LARGEST:
+    if size > LARGEST_FILE:
         raise Fault(f"{where} says that it has {size} bytes once it is inflated, which is too much")
     if kind == _ZLIB:
         plain = _inflated_zlib(packed, size, where)

@@ -6,10 +6,11 @@ from dataclasses import replace
 from pathlib import Path
 from typing import Optional
 
-from abi_tools.debug_files import debug_file, disagreement, supplementary_file
+from abi_tools.debug_files import FolderPlaces, Places, debug_file, disagreement, supplementary_file
 from abi_tools.elf_files import ElfFile, Section
 from abi_tools.elf_writing import AddedSection, with_sections
 from abi_tools.faults import Fault
+from abi_tools.limits import LARGEST_FILE
 from abi_tools.supplementary import DebugSections, leads_out, merge
 
 # Sections that name another file. A joined file needs none of them.
@@ -19,43 +20,55 @@ _LINKS = (".gnu_debuglink", ".gnu_debugaltlink", ".debug_sup")
 def join(library_path: Path, root: Path, debug_path: Optional[Path] = None) -> bytes:
     """The library with its debug information in it, uncompressed. The debug file is `debug_path`, or the library itself if it has
     debug information, or else the one found below `root`. The supplementary file is also looked for below `root`. Raises a fault if a
-    file is missing, damaged, of another build, or has debug information that cannot be joined."""
-    library = ElfFile(library_path)
-    debug = _debug_of(library, root, debug_path)
+    file is missing, damaged, of another build, too large, or has debug information that cannot be joined."""
+    return join_from(ElfFile(library_path), FolderPlaces(root), None if debug_path is None else ElfFile(debug_path))
+
+
+def join_from(library: ElfFile, places: Places, given: Optional[ElfFile] = None) -> bytes:
+    """The same for a library, the debug file that is given, if there is one, and the places of others."""
+    debug = _debug_of(library, places, given)
     if not debug.has_debug_information:
-        raise Fault(f"{debug.path} has no debug information")
+        raise Fault(f"{debug.name} has no debug information")
+    _check_size(library, debug)
     sections = debug.debug_sections()
     headers = {name: header for name, (header, _) in sections.items()}
     contents = {name: part for name, (_, part) in sections.items()}
-    own = DebugSections(str(debug.path), contents)
+    own = DebugSections(debug.name, contents)
     if leads_out(own):
-        supplementary = _supplementary_of(library, debug, root)
+        supplementary = _supplementary_of(library, debug, places)
+        _check_size(supplementary)
         other = supplementary.debug_sections()
-        contents = merge(own, DebugSections(str(supplementary.path), {name: part for name, (_, part) in other.items()}))
+        contents = merge(own, DebugSections(supplementary.name, {name: part for name, (_, part) in other.items()}))
         headers = {**{name: header for name, (header, _) in other.items()}, **headers}
     return _written(library, headers, contents)
 
 
-def _debug_of(library: ElfFile, root: Path, debug_path: Optional[Path]) -> ElfFile:
+def _check_size(*files: ElfFile) -> None:
+    """Raises a fault if a file is longer than what `abi` reads."""
+    for file in files:
+        if file.size > LARGEST_FILE:
+            raise Fault(f"{file.name} has {file.size} bytes, and abi reads no file of more than {LARGEST_FILE} bytes")
+
+
+def _debug_of(library: ElfFile, places: Places, given: Optional[ElfFile]) -> ElfFile:
     """The file with the debug information of a library."""
-    if debug_path is None:
-        return library if library.has_debug_information else debug_file(library, root)
-    debug = ElfFile(debug_path)
-    reason = disagreement(library, debug)
+    if given is None:
+        return library if library.has_debug_information else debug_file(library, places)
+    reason = disagreement(library, given)
     if reason is not None:
         raise Fault(reason)
-    return debug
+    return given
 
 
-def _supplementary_of(library: ElfFile, debug: ElfFile, root: Path) -> ElfFile:
+def _supplementary_of(library: ElfFile, debug: ElfFile, places: Places) -> ElfFile:
     """The supplementary file that the debug file and the library name."""
     link = debug.supplementary_link
     if link is None:
-        raise Fault(f"{debug.path} refers to a supplementary file, and does not name it")
+        raise Fault(f"{debug.name} refers to a supplementary file, and does not name it")
     other = library.supplementary_link
     if other is not None and other.checksum != link.checksum:
-        raise Fault(f"{library.path} and {debug.path} name supplementary files of two builds")
-    return supplementary_file(debug, link, root)
+        raise Fault(f"{library.name} and {debug.name} name supplementary files of two builds")
+    return supplementary_file(debug, link, places)
 
 
 def _written(library: ElfFile, headers: dict[str, Section], contents: dict[str, bytes]) -> bytes:

@@ -2,35 +2,54 @@
 
 from __future__ import annotations
 
+import hashlib
+import os
+import re
 import shlex
-from dataclasses import dataclass
+from collections import Counter
+from dataclasses import dataclass, replace
 from pathlib import Path
 from typing import Optional, Sequence
 
-from abi_tools.abi_program import Abi
+from abi_tools.abi_program import NO, YES, Abi
 from abi_tools.counting import counted
 from abi_tools.debug_files import NoDebugFile
 from abi_tools.faults import Fault
 from abi_tools.gates import Judgement, judge
-from abi_tools.joining import join
+from abi_tools.joining import join_from
 from abi_tools.output_file import write_whole
 from abi_tools.package_sides import PackagedLibrary, Pair, Side, package_rules
+from abi_tools.shown import line_shown, name_shown
 from abi_tools.verdicts import Verdict
-
 
 # The prefix of a note of `abi`.
 _NOTE = "abi: note: "
+GONE, NEW, LEFT_OUT = "gone", "new", "left out"
+# What a file name of this machine may have of a name from a package, and how long it may be.
+_UNSAFE = re.compile(r"[^A-Za-z0-9._+-]")
+_LONGEST = 120
 
 
 @dataclass(frozen=True)
 class Line:
-    """The line printed for a library, its first words, its verdict (none for a library that is new or left out), and the notes of `abi`
-    on it."""
+    """The line printed for a library: its first words, the name, what follows, its verdict (none for a library that is new or left
+    out), and the notes of `abi` on it."""
 
-    text: str
     word: str
+    name: str
+    said: str
     verdict: Optional[Verdict]
     notes: tuple[str, ...] = ()
+
+    @property
+    def text(self) -> str:
+        """The whole line."""
+        return line_shown(f"{self.word} {name_shown(self.name)}{': ' if self.said else ''}{self.said}")
+
+    @classmethod
+    def cannot_tell(cls, name: str, reason: str) -> "Line":
+        """The line of a library of which nothing can be told."""
+        return cls(Verdict.CANNOT_TELL.words(), name, reason, Verdict.CANNOT_TELL)
 
 
 @dataclass(frozen=True)
@@ -47,44 +66,52 @@ class Judging:
     least_share: float
     left_out: tuple[str, ...]
 
-    def line(self, pair: Pair) -> Line:
-        """The line of a library of either side."""
+    def line_without_work(self, pair: Pair) -> Optional[Line]:
+        """The line of a library that needs no comparison; None for any other."""
         if pair.soname in self.left_out:
-            return Line(f"left out {pair.name}", "left out", None)
+            return Line(LEFT_OUT, pair.name, "", None)
+        if pair.trouble:
+            return Line.cannot_tell(pair.name, pair.trouble)
         if pair.new is None and pair.old is not None:
-            return Line(f"gone {pair.name}: {pair.old.package.file.name} had it", "gone", Verdict.NO)
+            return Line(GONE, pair.name, f"{pair.old.package.file.name} had it", Verdict.NO)
         if pair.old is None and pair.new is not None:
-            return Line(f"new {pair.name}: {pair.new.package.file.name} has it", "new", None)
-        try:
-            return self._judged(pair)
-        except Fault as fault:
-            return Line(f"cannot tell {pair.name}: {fault}", Verdict.CANNOT_TELL.words(), Verdict.CANNOT_TELL)
+            return Line(NEW, pair.name, f"{pair.new.package.file.name} has it", None)
+        return None
 
-    def _judged(self, pair: Pair) -> Line:
-        """The line of a library that both sides have."""
-        name = pair.name.replace("/", "_")
-        rules, said_of_rules = (self.rules, "") if self.rules else package_rules(pair, self.sides, self.work)
-        reasons = [put_joined(library, side, self.work / folder / name)
-                   for library, side, folder in zip((pair.old, pair.new), self.sides, ("old", "new"))]
-        judgement = judge(Abi(folder=self.work), Path("old", name), Path("new", name), rules, self.least_share)
+    def line(self, pair: Pair, name: str) -> Line:
+        """The line of a library that both sides have. `name` is its name on this machine."""
+        try:
+            return self._judged(pair, name)
+        except Fault as fault:
+            return Line.cannot_tell(pair.name, str(fault))
+
+    def _judged(self, pair: Pair, name: str) -> Line:
+        folder = self.work / name
+        for side in ("old", "new"):
+            (folder / side).mkdir(parents=True)
+        rules, said_of_rules = (self.rules, "") if self.rules else package_rules(pair, self.sides, folder)
+        reasons = [put_joined(library, side, folder / place / name)
+                   for library, side, place in zip((pair.old, pair.new), self.sides, ("old", "new"))]
+        judgement = doubted(judge(Abi(folder), Path("old", name), Path("new", name), rules, self.least_share), pair)
         kept = [*self._keep(name, judgement), *self._keep_libraries(name, judgement.verdict, rules)]
-        parts = [_outcome(judgement), *_types(judgement), *([f"rules {said_of_rules}"] if said_of_rules else []), *kept]
-        if judgement.verdict == Verdict.CANNOT_TELL or judgement.verdict == Verdict.NO:
+        more = [pair.folders, f"rules {said_of_rules}" if said_of_rules else ""]
+        parts = [_outcome(judgement), *_types(judgement), *(one for one in more if one), *kept]
+        if judgement.verdict != Verdict.YES:
             parts += [reason for reason in reasons if reason]
-        for folder in ("old", "new"):
-            (self.work / folder / name).unlink()
-        word = judgement.verdict.words()
-        return Line(f"{word} {pair.name}: {'; '.join(parts)}", word, judgement.verdict, _notes(judgement))
+        for place in ("old", "new"):
+            (folder / place / name).unlink()
+        return Line(judgement.verdict.words(), pair.name, "; ".join(parts), judgement.verdict, _notes(judgement))
 
     def _keep(self, name: str, judgement: Judgement) -> Sequence[str]:
-        """Keeps the certificate of a yes or the report of a no, and removes what an earlier run kept."""
+        """Keeps the certificate of a yes or the report of a no of `abi`, and removes what an earlier run kept."""
         for suffix in (".cert", ".report"):
             (self.certificates / f"{name}{suffix}").unlink(missing_ok=True)
-        if judgement.answer is None or judgement.verdict == Verdict.CANNOT_TELL:
+        answer = judgement.answer
+        if answer is None or answer.status not in (YES, NO) or (answer.status == YES) != (judgement.verdict == Verdict.YES):
             return []
-        kind, suffix = ("certificate", ".cert") if judgement.verdict == Verdict.YES else ("report", ".report")
+        kind, suffix = ("certificate", ".cert") if answer.status == YES else ("report", ".report")
         place = self.certificates / f"{name}{suffix}"
-        write_whole(place, judgement.answer.text.encode("utf-8", "surrogateescape"))
+        write_whole(place, answer.text.encode("utf-8", "surrogateescape"))
         return [f"{kind} {place}"]
 
     def _keep_libraries(self, name: str, verdict: Verdict, rules: Optional[Path]) -> Sequence[str]:
@@ -100,11 +127,29 @@ class Judging:
             return []
         for place in libraries:
             place.parent.mkdir(parents=True, exist_ok=True)
-            write_whole(place, (self.work / place.parent.name / name).read_bytes())
+            write_whole(place, (self.work / name / place.parent.name / name).read_bytes())
         if rules is not None:
             write_whole(kept_rules, rules.read_bytes())
         options = [] if rules is None else ["--rules", str(kept_rules)]
         return [f"see {shlex.join(['abi-report', *options, *map(str, libraries)])}"]
+
+
+def file_names(pairs: Sequence[Pair]) -> list[str]:
+    """A name on this machine for each pair, no two of them equal: its own name, with characters that a file name should not have
+    replaced, and with a digest if the name is too long or another pair has the same one."""
+    plain = [safe_name(pair.name) for pair in pairs]
+    counts = Counter(name.lower() for name in plain)
+    return [name if counts[name.lower()] == 1 and len(name) <= _LONGEST else f"{name[:_LONGEST]}-{_digest(pair.name)}"
+            for pair, name in zip(pairs, plain)]
+
+
+def safe_name(name: str) -> str:
+    """A name as a file name of this machine that leads nowhere else. Several names may have the same one."""
+    return _UNSAFE.sub("_", name).lstrip(".-") or "_"
+
+
+def _digest(name: str) -> str:
+    return hashlib.sha256(name.encode("utf-8", "surrogateescape")).hexdigest()[:32]
 
 
 def put_joined(library: Optional[PackagedLibrary], side: Side, output: Path) -> str:
@@ -112,20 +157,50 @@ def put_joined(library: Optional[PackagedLibrary], side: Side, output: Path) -> 
     library as it was shipped, and returns the reason."""
     assert library is not None
     output.parent.mkdir(exist_ok=True)
+    contents, fault = joined_or_shipped(library, side)
+    _put(output, contents)
+    if isinstance(fault, NoDebugFile):
+        return (f"there is no debug file of {name_shown(library.name)}: add the -dbgsym, -dbg or -debuginfo package of "
+                f"{library.package.file.name}")
+    return "" if fault is None else str(fault)
+
+
+def joined_or_shipped(library: PackagedLibrary, side: Side) -> tuple[bytes, Optional[Fault]]:
+    """A library joined with its debug information; or, if they cannot be joined, as it was shipped, and why."""
     try:
-        output.write_bytes(join(library.path, side.root))
-    except NoDebugFile:
-        output.write_bytes(library.path.read_bytes())
-        return f"there is no debug file of {library.name}: add the -dbgsym, -dbg or -debuginfo package of {library.package.file.name}"
+        return join_from(side.places.read(library.path), side.places), None
     except Fault as fault:
-        output.write_bytes(library.path.read_bytes())
-        return str(fault).replace(f"{side.root}/", "").replace(f" below {side.root}", "")
-    return ""
+        return library.path.read_bytes(), fault
+
+
+def _put(output: Path, contents: bytes) -> None:
+    """Writes a file, and follows no link in its place."""
+    file = os.open(output, os.O_WRONLY | os.O_CREAT | os.O_TRUNC | os.O_NOFOLLOW | os.O_CLOEXEC, 0o600)
+    with os.fdopen(file, "wb") as stream:
+        stream.write(contents)
+
+
+def settled(judgement: Judgement) -> Judgement:
+    """The judgement on two libraries of packages: one without exports has nothing that callers use."""
+    answer = judgement.answer
+    if answer is not None and answer.status == YES and judgement.old is not None and not judgement.old.exports:
+        return replace(judgement, verdict=Verdict.YES, reasons=())
+    return judgement
+
+
+def doubted(judgement: Judgement, pair: Pair) -> Judgement:
+    """The judgement on a pair of packages: a library that the loader may not find any more is no yes."""
+    found = settled(judgement)
+    if pair.doubt and found.verdict == Verdict.YES:
+        return replace(found, verdict=Verdict.CANNOT_TELL, reasons=(pair.doubt,))
+    return found
 
 
 def _outcome(judgement: Judgement) -> str:
     """The outcome of a comparison, in words."""
     if judgement.verdict == Verdict.YES:
+        if judgement.old is not None and not judgement.old.exports:
+            return "the old library has no exports, so nothing that callers use can break"
         return f"{judgement.compared} exports compared, {judgement.typed} with types"
     if judgement.verdict == Verdict.NO and judgement.answer is not None:
         return counted(len(judgement.answer.rows), "break")

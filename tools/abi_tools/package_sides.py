@@ -2,111 +2,101 @@
 
 from __future__ import annotations
 
-import gzip
-from collections import Counter
-from dataclasses import dataclass
-from pathlib import Path, PurePosixPath
+import os
+from dataclasses import dataclass, field
+from functools import cached_property
+from pathlib import Path
 from typing import Iterator, Optional, Sequence
 
-from abi_tools.debug_files import DEBUG_FOLDER
-from abi_tools.elf_files import ElfFile, SHT_DYNSYM
 from abi_tools.faults import Fault
+from abi_tools.found_libraries import Contents, LeftOut, PackagedLibrary, Unreadable, contents_of
+from abi_tools.package_debug import PackagePlaces
+from abi_tools.pairing import Pair, pairs_of, with_unreadable
+from abi_tools.shown import name_shown
 from abi_tools.unpacking import Package, unpack
 
-# The first bytes of a little-endian ELF-64 file, and its type and machine: ET_DYN and EM_X86_64.
-_IDENTITY = b"\x7fELF\x02\x01"
-_TYPE_AND_MACHINE = b"\x03\x00\x3e\x00"
-_TYPE_AT = 16
-_HEADER = 20
-
-
-@dataclass(frozen=True)
-class PackagedLibrary:
-    """A library of a package: its name in the package, its unpacked file, its soname (or else its file name), and the package."""
-
-    name: PurePosixPath
-    path: Path
-    soname: str
-    package: Package
+__all__ = ["PackagedLibrary", "Pair", "Side", "libraries", "package_rules", "pairs"]
 
 
 @dataclass(frozen=True)
 class Side:
-    """One side of the comparison: the libraries of packages that are unpacked below one folder."""
+    """One side of the comparison: its packages, and what they bring. Packages of debug information alone are only searched for debug
+    files."""
 
-    root: Path
-    libraries: tuple[PackagedLibrary, ...]
+    packages: tuple[Package, ...]
+    contents: tuple[Contents, ...]
 
     @classmethod
-    def unpacked(cls, files: Sequence[Path], root: Path) -> "Side":
-        """Unpacks the packages. Raises a fault if one is damaged, or if two have the same file."""
-        root.mkdir()
-        packages = [unpack(file, root) for file in files]
-        return cls(root, tuple(library for package in packages for library in libraries(package, root)))
+    def of(cls, packages: Sequence[Package], contents: Sequence[Contents]) -> "Side":
+        """A side. Raises a fault if two packages bring a library of the same name."""
+        _refuse_second(packages)
+        return cls(tuple(packages), tuple(contents))
 
-
-def libraries(package: Package, root: Path) -> Iterator[PackagedLibrary]:
-    """The shared libraries of a package: files of the right type and machine that have dynamic symbols, and that have a soname or `.so`
-    in their name. Debug files do not count."""
-    for name in package.names:
-        path = root / name
-        if PurePosixPath("/", name).is_relative_to(DEBUG_FOLDER) or path.is_symlink() or not _may_be_library(path):
-            continue
-        file = ElfFile(path)
-        soname = file.soname
-        if any(section.kind == SHT_DYNSYM for section in file.sections) and (soname or ".so" in name.name):
-            yield PackagedLibrary(name, path, soname or name.name, package)
-
-
-def _may_be_library(path: Path) -> bool:
-    with path.open("rb") as stream:
-        header = stream.read(_HEADER)
-    return header.startswith(_IDENTITY) and header[_TYPE_AT:] == _TYPE_AND_MACHINE
-
-
-@dataclass(frozen=True)
-class Pair:
-    """A library of the old packages and the one of the new packages that replaces it. `new` is None if the library is gone, and `old` is
-    None if it is new. The name is the soname or, if one side has it several times, the folder and the soname."""
-
-    name: str
-    old: Optional[PackagedLibrary]
-    new: Optional[PackagedLibrary]
+    @classmethod
+    def unpacked(cls, files: Sequence[Path], root: Path, shipping: Optional[int] = None) -> "Side":
+        """Unpacks packages below `root`, which is made. Only the first `shipping` of them ship libraries. Raises a fault if a package is
+        damaged, or if two have the same file."""
+        root.mkdir(mode=0o700)
+        packages = []
+        for number, file in enumerate(files):
+            folder = root / str(number)
+            folder.mkdir(mode=0o700)
+            packages.append(unpack(file, folder))
+        return cls.of(packages, [contents_of(package) for package in packages[:shipping]])
 
     @property
-    def soname(self) -> str:
-        """The soname, or the file name if there is none."""
-        return next((library.soname for library in (self.old, self.new) if library is not None), self.name)
+    def libraries(self) -> tuple[PackagedLibrary, ...]:
+        """Its libraries."""
+        return tuple(library for one in self.contents for library in one.libraries)
+
+    @property
+    def unreadable(self) -> tuple[Unreadable, ...]:
+        """The files that may be libraries and cannot be read."""
+        return tuple(file for one in self.contents for file in one.unreadable)
+
+    @property
+    def left_out(self) -> tuple[LeftOut, ...]:
+        """The libraries that are not judged."""
+        return tuple(file for one in self.contents for file in one.left_out)
+
+    @cached_property
+    def places(self) -> PackagePlaces:
+        """Where the debug files of its libraries lie."""
+        return PackagePlaces(self.packages)
+
+
+def _refuse_second(packages: Sequence[Package]) -> None:
+    """Raises a fault if two packages bring an ELF file of the same name."""
+    seen: set[str] = set()
+    for package in packages:
+        names = {name for name, file in package.tree.files() if file.is_elf}
+        twice = sorted(seen & names)
+        if twice:
+            raise Fault(f"{package.file} brings a file that another package brings, too: {name_shown(twice[0])}")
+        seen |= names
+
+
+def libraries(package: Package) -> Iterator[PackagedLibrary]:
+    """The libraries of a package."""
+    return iter(contents_of(package).libraries)
 
 
 def pairs(old: Side, new: Side) -> list[Pair]:
-    """The libraries of both sides, paired by soname and sorted by name."""
-    counts = [Counter(library.soname for library in side.libraries) for side in (old, new)]
-    several = {soname for count in counts for soname, number in count.items() if number > 1}
-    named = [{_key(library, several): library for library in side.libraries} for side in (old, new)]
-    names = sorted({*named[0], *named[1]})
-    return [Pair(name, named[0].get(name), named[1].get(name)) for name in names]
-
-
-def _key(library: PackagedLibrary, several: set[str]) -> str:
-    """What a library is paired by: the soname, with the folder in front if the soname occurs several times on one side."""
-    return str(library.name.parent / library.soname) if library.soname in several else library.soname
+    """The libraries of both sides, paired and sorted by name, with a row for each file that may be a library and cannot be read."""
+    return with_unreadable(pairs_of(old.libraries, new.libraries), old.unreadable, new.unreadable)
 
 
 def package_rules(pair: Pair, sides: Sequence[Side], folder: Path) -> tuple[Optional[Path], str]:
-    """The rule file in the package of the new library, or else in that of the old one, inflated, and a text that names it. Raises a
-    fault if a package has several, or one that cannot be inflated."""
-    for library, side, said in ((pair.new, sides[1], "new"), (pair.old, sides[0], "old")):
+    """The rule file in the package of the new library, or else in that of the old one, inflated, in `folder`, and a text that names it.
+    Raises a fault if a package has several, or one that cannot be read."""
+    for library, said in ((pair.new, "new"), (pair.old, "old")):
         name = library.package.rules if library is not None else None
-        if name is None:
+        if library is None or name is None:
             continue
-        place = side.root / name
-        if name.suffix != ".gz":
-            return place, f"{name} ({said})"
-        plain = folder / f"{said}-{name.parent.name}.rules"
-        try:
-            plain.write_bytes(gzip.decompress(place.read_bytes()))
-        except (OSError, EOFError) as error:
-            raise Fault(f"{name} cannot be unpacked: {error}") from error
-        return plain, f"{name} ({said})"
+        place = folder / f"{said}.rules"
+        text = library.package.rule_text()
+        file = os.open(place, os.O_WRONLY | os.O_CREAT | os.O_TRUNC | os.O_NOFOLLOW | os.O_CLOEXEC, 0o600)
+        with os.fdopen(file, "wb") as output:
+            output.write(text)
+        return place, f"{name_shown(name)} ({said})"
     return None, ""

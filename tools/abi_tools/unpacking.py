@@ -1,153 +1,166 @@
-"""Unpacks the packages of distributions: the files that the tools read, and no others."""
+"""Reads the packages of distributions as data. Of their contents only ELF files and rule files are kept, in files that are named by
+numbers."""
 
 from __future__ import annotations
 
-import lzma
-import shutil
-import subprocess
-import tarfile
+import os
 import zlib
 from dataclasses import dataclass
 from pathlib import Path, PurePosixPath
-from typing import Iterable, Iterator, Optional
+from typing import BinaryIO, Iterator, Optional
 
-from debian.arfile import ArError
-from debian.debfile import DebError, DebFile
-
-from abi_tools.debug_files import below
+from abi_tools import deb_files, rpm_files
+from abi_tools.archives import Archive, Kind, Member
 from abi_tools.faults import Fault
+from abi_tools.limits import LARGEST_KEPT, LARGEST_KEPT_FILE, LARGEST_RULES, LONGEST_NAME
+from abi_tools.package_trees import Entry, File, Link, Refused, Tree
+from abi_tools.shown import name_shown
 
-_DEB_MAGIC = b"!<arch>\n"
-_RPM_MAGIC = b"\xed\xab\xee\xdb"
-_ELF_MAGIC = b"\x7fELF"
+ELF_MAGIC = b"\x7fELF"
 # The rule file in a package's folder of documentation, compressed or not.
 _RULES = ("abi.rules", "abi.rules.gz")
 _DOCUMENTATION = PurePosixPath("usr/share/doc")
-# The largest inflated file of a package, in bytes: `abi` reads no more than 256 MiB, and debug information may be in a file of its own.
-_LARGEST_FILE = 1 << 32
+_PIECE = 1 << 20
+# zlib's wbits for the gzip format.
+_GZIP = 31
 
 
 @dataclass(frozen=True)
 class Package:
-    """An unpacked package: its file, and the names of the files and links in it."""
+    """A package: its file, and what it installs."""
 
     file: Path
-    names: tuple[PurePosixPath, ...]
+    tree: Tree
+
+    def kept(self) -> Iterator[Path]:
+        """The files of this machine that have its contents."""
+        return (file.kept for _, file in self.tree.files() if file.kept is not None)
 
     @property
-    def rules(self) -> Optional[PurePosixPath]:
+    def rules(self) -> Optional[str]:
         """The name of its rule file, if it has one. Raises a fault if it has several."""
-        found = [name for name in self.names if name.name in _RULES and name.parent.parent == _DOCUMENTATION]
+        found = [name for name, node in sorted(self.tree.entries.items()) if _is_rule_name(name) and node is not Entry.FOLDER]
         if len(found) > 1:
-            raise Fault(f"{self.file} brings several rule files: {', '.join(map(str, found))}")
+            raise Fault(f"{self.file} brings several rule files: {', '.join(map(name_shown, found))}")
         return found[0] if found else None
 
+    def rule_text(self) -> bytes:
+        """The contents of its rule file, inflated. Raises a fault if it is a link to another file, too long or damaged."""
+        name = self.rules
+        file = None if name is None else self.tree.file(name)
+        if name is None or file is None or file.kept is None:
+            raise Fault(f"{self.file} brings {name_shown(name or '')}, which leads to no rule file in the package")
+        packed = file.kept.read_bytes()
+        plain = packed if not name.endswith(".gz") else _inflated(packed, name)
+        if len(plain) > LARGEST_RULES:
+            raise Fault(f"{name_shown(name)} has more than {LARGEST_RULES} bytes")
+        return plain
 
-def unpack(file: Path, root: Path) -> Package:
-    """Unpacks what the tools read of a package below `root`: ELF files, links and rule files. Raises a fault if it is damaged or not a
-    package."""
+
+def _is_rule_name(name: str) -> bool:
+    return name.endswith(_RULES) and PurePosixPath(name).name in _RULES and PurePosixPath(name).parent.parent == _DOCUMENTATION
+
+
+def _inflated(packed: bytes, name: str) -> bytes:
+    try:
+        machine = zlib.decompressobj(_GZIP)
+        plain = machine.decompress(packed, LARGEST_RULES + 1)
+    except zlib.error as error:
+        raise Fault(f"{name_shown(name)} cannot be inflated: {error}") from error
+    if not machine.eof and len(plain) <= LARGEST_RULES or machine.unused_data:
+        raise Fault(f"{name_shown(name)} cannot be inflated: it is cut short, or other bytes follow")
+    return plain
+
+
+def unpack(file: Path, folder: Path) -> Package:
+    """Reads a package, and keeps its ELF files and rule files in `folder`, which must be new. Raises a fault if it is damaged, too large
+    or no package."""
     if not file.is_file():
         raise Fault(f"there is no package {file}")
     with file.open("rb") as stream:
-        magic = stream.read(len(_DEB_MAGIC))
-    if magic == _DEB_MAGIC:
-        return Package(file, tuple(_unpack_deb(file, root)))
-    if magic.startswith(_RPM_MAGIC):
-        return Package(file, tuple(_unpack_rpm(file, root)))
-    raise Fault(f"{file} is neither a .deb nor a .rpm")
-
-
-def _parts(name: str, file: Path) -> PurePosixPath:
-    """The name of a file of a package, relative to `/`. Raises a fault if it leads out of that folder."""
-    parts = [part for part in PurePosixPath(name).parts if part not in ("/", ".")]
-    if ".." in parts:
-        raise Fault(f"{file} brings a file that lies outside of its folder: {name}")
-    return PurePosixPath(*parts)
-
-
-def _folder(root: Path, name: PurePosixPath, file: Path) -> Path:
-    """The folder of a name below `root`, made if it is missing. Links are followed as if `root` were `/`."""
-    at = root
-    for part in name.parts:
-        step = at / part
-        if step.is_symlink():
-            found = below(root, PurePosixPath(step.relative_to(root)))
-            if found is None or not found.is_dir():
-                raise Fault(f"{file} brings a file below {name}, which is no folder")
-            at = found
+        magic = stream.read(len(deb_files.MAGIC))
+        stream.seek(0)
+        if magic == deb_files.MAGIC:
+            archive = Archive(deb_files.data_of(stream, file), "tar", file)
+        elif magic.startswith(rpm_files.MAGIC):
+            archive = Archive(rpm_files.payload_of(stream, file), "cpio", file)
         else:
-            step.mkdir(exist_ok=True)
-            at = step
-    return at
+            raise Fault(f"{file} is neither a .deb nor a .rpm")
+        return Package(file, placed(archive, folder, file))
 
 
-def _unpack_deb(file: Path, root: Path) -> Iterator[PurePosixPath]:
-    """Unpacks a .deb, and yields the names of the files and links in it."""
+def placed(archive: Archive, folder: Path, file: object) -> Tree:
+    """What an archive of the package `file` installs. Keeps its ELF files and rule files in `folder`."""
+    placing = _Placing(archive, folder, Tree())
     try:
-        with DebFile(filename=str(file)) as package:
-            yield from place_members(package.data.tgz(), root, file)
-    except (ArError, DebError, tarfile.TarError, lzma.LZMAError, zlib.error, EOFError, ValueError) as error:
-        raise Fault(f"{file} is damaged: {error}") from error
-    except OSError as error:
-        # The library that reads the archive raises OSError, too; only an error of the system has a number.
-        if error.errno is not None:
-            raise
-        raise Fault(f"{file} is damaged: {error}") from error
+        for member in archive.members():
+            placing.take(member)
+    except Refused as refused:
+        raise Fault(f"{file} is refused: {refused}") from refused
+    return placing.tree
 
 
-def place_members(archive: tarfile.TarFile, root: Path, file: Path) -> Iterator[PurePosixPath]:
-    """Puts the members of an archive of the package `file` below `root`, and yields the names of those that the tools read. Raises a
-    fault if a member lies outside of `root`, or exists there already."""
-    for member in archive:
-        name = _parts(member.name, file)
-        if _place(archive, member, _folder(root, name.parent, file) / name.name, file):
-            yield name
+@dataclass
+class _Placing:
+    """Places the members of an archive in a tree."""
+
+    archive: Archive
+    folder: Path
+    tree: Tree
+    kept: int = 0
+    number: int = 0
+
+    def take(self, member: Member) -> None:
+        """Places a member, and keeps its contents if they are wanted."""
+        if member.kind is Kind.FILE:
+            node = File()
+            self._fill(node, self.tree.place(member.name, node), member)
+        elif member.kind is Kind.HARD_LINK:
+            self._take_hard_link(member)
+        elif member.kind is Kind.LINK:
+            if len(member.target) > LONGEST_NAME or not member.target:
+                raise Refused(f"its link {name_shown(member.name)} has no target, or one of more than {LONGEST_NAME} bytes")
+            self.tree.place(member.name, Link(member.target))
+        else:
+            self.tree.place(member.name, Entry.FOLDER if member.kind is Kind.FOLDER else Entry.OTHER)
+
+    def _take_hard_link(self, member: Member) -> None:
+        """A second name of a file. In a .rpm the last name of a file has its contents."""
+        node = self.tree.file(member.target)
+        if node is None:
+            raise Refused(f"its member {name_shown(member.name)} is a hard link to {name_shown(member.target)}, which it does not bring")
+        place = self.tree.place(member.name, node)
+        if member.size > 0:
+            if node.size > 0:
+                raise Refused(f"its member {name_shown(member.name)} is a hard link with contents of its own")
+            self._fill(node, place, member)
+
+    def _fill(self, node: File, place: str, member: Member) -> None:
+        """Reads the contents of a file, if they are wanted."""
+        node.size = member.size
+        start = self.archive.read(len(ELF_MAGIC))
+        node.is_elf = start == ELF_MAGIC
+        is_rules = _is_rule_name(place)
+        if not node.is_elf and not is_rules:
+            return
+        largest = LARGEST_KEPT_FILE if node.is_elf else LARGEST_RULES
+        if member.size > largest:
+            node.refused = f"it has {member.size} bytes, and no such file of more than {largest} bytes is read"
+            return
+        self.kept += member.size
+        if self.kept > LARGEST_KEPT:
+            raise Refused(f"its ELF files have more than {LARGEST_KEPT} bytes together")
+        self.number += 1
+        node.kept = self.folder / str(self.number)
+        with _new_file(node.kept) as output:
+            output.write(start)
+            for piece in self._pieces():
+                output.write(piece)
+
+    def _pieces(self) -> Iterator[bytes]:
+        return iter(lambda: self.archive.read(_PIECE), b"")
 
 
-def _place(archive: tarfile.TarFile, member: tarfile.TarInfo, place: Path, file: Path) -> bool:
-    """Puts a member of an archive in its place if the tools read it, and returns whether they do."""
-    if member.issym():
-        if not place.is_symlink() and not place.exists():
-            place.symlink_to(member.linkname)
-        return True
-    contents = archive.extractfile(member) if member.isfile() or member.islnk() else None
-    if contents is None:
-        return False
-    if member.size > _LARGEST_FILE:
-        raise Fault(f"{file} brings a file of {member.size} bytes, which is too much: {member.name}")
-    magic = contents.read(len(_ELF_MAGIC))
-    if magic != _ELF_MAGIC and place.name not in _RULES:
-        return False
-    if place.is_symlink() or place.exists():
-        raise Fault(f"{file} brings a file that another package brings, too: {member.name}")
-    with place.open("wb") as output:
-        output.write(magic)
-        shutil.copyfileobj(contents, output)
-    return True
-
-
-def _unpack_rpm(file: Path, root: Path) -> list[PurePosixPath]:
-    """Unpacks a .rpm with bsdtar, which refuses names that lead out of the folder, and returns the names of the files and links in it."""
-    if shutil.which("bsdtar") is None:
-        raise Fault("there is no bsdtar to unpack a .rpm: install the package libarchive-tools")
-    listed = _ran(["bsdtar", "-tf", str(file.resolve())], file)
-    names = [_parts(line, file) for line in listed.decode("utf-8", "surrogateescape").splitlines()]
-    _refuse_second(names, root, file)
-    _ran(["bsdtar", "-xf", str(file.resolve()), "--no-same-owner", "--no-same-permissions", "-C", str(root)], file)
-    return [name for name in names if (root / name).is_symlink() or (root / name).is_file()]
-
-
-def _refuse_second(names: Iterable[PurePosixPath], root: Path, file: Path) -> None:
-    """Raises a fault if another package has already put a library in the place of one of the files."""
-    for name in names:
-        place = root / name
-        if place.is_file() and not place.is_symlink() and place.read_bytes().startswith(_ELF_MAGIC):
-            raise Fault(f"{file} brings a file that another package brings, too: {name}")
-
-
-def _ran(command: list[str], file: Path) -> bytes:
-    ended = subprocess.run(command, stdin=subprocess.DEVNULL, capture_output=True, check=False)
-    if ended.returncode != 0:
-        said = ended.stderr.decode("utf-8", "replace").strip().splitlines()
-        raise Fault(f"{file} is damaged: {said[-1] if said else command[0] + ' failed'}")
-    return ended.stdout
+def _new_file(path: Path) -> BinaryIO:
+    """A new file that nobody else may read."""
+    return os.fdopen(os.open(path, os.O_WRONLY | os.O_CREAT | os.O_EXCL | os.O_NOFOLLOW | os.O_CLOEXEC, 0o600), "wb")

@@ -1,7 +1,9 @@
 -- What crates above may use of proofs: laws of the definitions of `specs/`, of lists, and of cases.
 pub mod Bools
+pub mod Budgets
 pub mod Cases
 pub mod Contained
+pub mod Filtered
 pub mod Leb
 pub mod Lists
 pub mod Numbers

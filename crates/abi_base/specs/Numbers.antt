@@ -12,7 +12,7 @@ number_of base digits = sum_by (λ d. d.1 * base ^ d.0) (enumerate_from 0 digits
 unfoldable pub number : ℕ → List ℕ → ℕ → ℕ
 number n bytes at = number_of 256 (take n (drop at bytes))
 
--- the same, where all n bytes are in bounds
+-- the number of n bytes at an offset, none where one of them is out of bounds
 abbrev pub number_at : ℕ → List ℕ → ℕ → Option ℕ
 number_at n bytes at = if nat_le (at + n) (length bytes) then Some (number n bytes at) else None
 

@@ -14,10 +14,10 @@ use std::collections::{HashMap, HashSet};
 use std::str;
 
 // A budget is 64 times a number of bytes (see `Effort`). Source positions may take eight bytes for each byte of the file, and a
-// mebibyte more, and so may the names of typedefs.
+// 32 mebibytes more, and so may the names of typedefs.
 const FILE_BYTES: usize = 8;
 
-const BYTES_BESIDE: usize = 16_384;
+const BYTES_BESIDE: usize = 524_288;
 
 /// The source positions and the names of types, by the offsets of their entries.
 #[derive(Drop)]

@@ -69,3 +69,16 @@ AnswersAlike =
     → TellsEach other.reading.told (places_of (row_of other (app other_rules_name report other_app_name other_old_name other_new_name)).inputs) (another ∷ old ∷ new ∷ rules ∷ [])
     → (v w : Verdict) (untyped other_untyped : Option Remark) (text answer : List ℕ) → Answers call (Judged v untyped) text → Answers other (Judged w other_untyped) answer
     → (v ≡ w) × (untyped ≡ other_untyped) × (text ≡ answer)
+
+-- Two calls of `app` of any styles, with any listeners. The known bytes of their inputs are the same, except for the applications, which
+-- import the same. If both calls are answered with a verdict, the verdicts are equal, and so are the remarks on exports without types.
+abbrev pub VerdictsAlike : Type 0
+VerdictsAlike =
+    (call other : Call) (rules_name other_rules_name : Option (List ℕ)) (report other_report : ReportStyle) (app_name old_name new_name other_app_name other_old_name other_new_name program another old new rules : List ℕ)
+    → ImportTheSame program another
+    → arguments_by call.words ≡ request (app rules_name report app_name old_name new_name)
+    → TellsEach call.reading.told (places_of (row_of call (app rules_name report app_name old_name new_name)).inputs) (program ∷ old ∷ new ∷ rules ∷ [])
+    → arguments_by other.words ≡ request (app other_rules_name other_report other_app_name other_old_name other_new_name)
+    → TellsEach other.reading.told (places_of (row_of other (app other_rules_name other_report other_app_name other_old_name other_new_name)).inputs) (another ∷ old ∷ new ∷ rules ∷ [])
+    → (v w : Verdict) (untyped other_untyped : Option Remark) (text answer : List ℕ) → Answers call (Judged v untyped) text → Answers other (Judged w other_untyped) answer
+    → (v ≡ w) × (untyped ≡ other_untyped)

@@ -20,7 +20,7 @@ use std::alloc::Global;
 use trial_libraries::laws::made_libraries_are_no_longer_than_inputs;
 use trial_libraries::{GenRefusal, Side, make};
 
-/// `trial` with a number of functions: two libraries with so many are generated and checked, with an empty rule file and these
+/// `trial` with a number of functions: two libraries with that many are generated and checked, with an empty rule file and these
 /// listeners. A fault in one of them would be reported as if it had been read from a file.
 #[derive(Clone, Copy)]
 pub struct Trial {

@@ -126,7 +126,7 @@ IsFilling-more parts i old new numbers places x number at inside here many filli
           (renamed x (part_in parts i) number (like_before parts (part_in parts i) i) i at (get_or (places ++ at ∷ []) i d) (sym here) is_number (sym (get_or_push places at d i filling.many_places)) placed);
     }
 
--- the same, with the lists after a push
+-- the lists after a push fill one part more
 pub IsFilling-pushed : (parts : List PlainPart) (i : ℕ) (old new : Counts) (numbers grown : List ℕ) (places longer : List NamedPlace) (x : PlainPart) (number : ℕ) (at : NamedPlace)
     → i < length parts → part_in parts i ≡ x → number ≡ count_under old x → IsFilling parts i old numbers places
     → ((q : PlainPart) → count_under new q ≡ count_under old q + (if like q x then 1 else 0))

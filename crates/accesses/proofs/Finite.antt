@@ -1,4 +1,4 @@
--- Where no path leads to a break, some closed relation holds the roots: what breaks nothing within so many steps, for as many steps
+-- Where no path leads to a break, some closed relation holds the roots: what breaks nothing within this many steps, for as many steps
 -- as change nothing more.
 use Rattle.std.proofs.Common.{◌≡◌, ◌<◌, ◌≤◌, ℕ, zero, suc, Bool, true, false, List, [], ◌∷◌, length, Option, Some, None, slice_get, refl, sym, ◌∙◌, ap, subst, eqb, arith, inl, inr}
 use Rattle.std.specs.Prelude.{◌&&◌, ◌||◌, ◌⊎◌}
@@ -82,7 +82,7 @@ same_or_fewer f g falls (x ∷ xs) =
       ]
     ]
 
--- ---- what breaks nothing within so many steps
+-- ---- what breaks nothing within this many steps
 
 keeps : Task → Triple → Bool
 keeps t x = is_marked t x.old x.way || eqb (length (breaks_of t x)) 0
@@ -137,7 +137,7 @@ holds-fewer t (suc n) x e =
     and_from (keeps t x) (list_all (λ i. on (step t x i) (holds t n)) range) both.0
     (list_all-weaker (λ i. on (step t x i) (holds t (suc n))) (λ i. on (step t x i) (holds t n)) (λ i. on-weaker (step t x i) (holds t (suc n)) (holds t n) (holds-fewer t n)) range both.1)
 
--- so many steps after which no more change anything
+-- this many steps after which no more change anything
 record IsSettled (t : Task) : Type 0 where
   pub steps : ℕ
   pub same : AllByRecursion (λ x. holds t steps x ≡ true → holds t (suc steps) x ≡ true) (triples t)

@@ -1,5 +1,5 @@
 -- The fault and the imports of an application, by those of its parts.
-use Rattle.std.proofs.Common.{◌≡◌, ℕ, List, [], ◌∷◌, length, Option, Some, None, refl, sym, ◌∙◌, ap}
+use Rattle.std.proofs.Common.{◌≡◌, ◌<◌, ℕ, arith, List, [], ◌∷◌, length, Option, Some, None, refl, sym, ◌∙◌, ap}
 use Rattle.std.proofs.lemmas.List.{length-map}
 use Rattle.abi_base.specs.declared.fault.Fault.{Fault}
 use Rattle.abi_base.specs.Outcome.{first}
@@ -9,7 +9,7 @@ use Rattle.elf.specs.symbols.Symbols.{PlainSymbol, symbols_of}
 use Rattle.elf.specs.versions.Versions.{version_fault}
 use Rattle.elf_needs.specs.Indexes.{indexes_of}
 use Rattle.elf_needs.specs.Needs.{PlainNeed, need_with, needs_fault}
-use Rattle.app_check.specs.Imports.{imports_with, import_fault_with, symbol_indexes, imports_fault, imports_of}
+use Rattle.app_check.specs.Imports.{all_need_bytes, most_need_bytes, imports_with, import_fault_with, symbol_indexes, imports_fault, imports_of}
 use Rattle.app_check.proofs.ImportsRead.{imports_same, first_same}
 
 pub counted : (f : List ℕ) (symbols : List Symbol) → plain_symbols symbols ≡ symbols_of f → length symbols ≡ length (symbols_of f)
@@ -43,3 +43,11 @@ module _ (f : List ℕ) (symbols : List Symbol) (named : ℕ → Option PlainNee
       imports_same named (need_with f) indexes same (plain_symbols symbols)
       ∙ ap (λ (l : List ℕ). imports_with (need_with f) l (plain_symbols symbols)) all_indexes
       ∙ ap (λ (l : List PlainSymbol). imports_with (need_with f) (symbol_indexes f) l) read
+
+  -- where the imports of the symbols count more than is allowed, those of the file do
+  pub imports_past : most_need_bytes (length (plain_symbols symbols)) < all_need_bytes (imports_with named indexes (plain_symbols symbols))
+      → most_need_bytes (length (symbols_of f)) < all_need_bytes (imports_of f)
+  imports_past above =
+      let most : most_need_bytes (length (plain_symbols symbols)) ≡ most_need_bytes (length (symbols_of f)) = ap (λ (l : List PlainSymbol). most_need_bytes (length l)) read in
+      let all : all_need_bytes (imports_with named indexes (plain_symbols symbols)) ≡ all_need_bytes (imports_of f) = ap all_need_bytes imports_are in
+      omega (arith, above, most, all)

@@ -1,9 +1,12 @@
 -- The first undefined need of symbols, and the imports among them, one symbol after another.
-use Rattle.std.proofs.Common.{◌≡◌, ℕ, ◌+◌, ◌<◌, ◌≤◌, List, [], ◌∷◌, ◌++◌, length, map, take, drop, get_or, Option, Some, None, refl, sym, ◌∙◌, ap, arith}
+use Rattle.std.proofs.Common.{◌≡◌, ℕ, ◌+◌, ◌<◌, List, [], ◌∷◌, ◌++◌, length, map, take, drop, get_or, Option, Some, None, refl, sym, ◌∙◌, ap, subst, arith}
 use Rattle.std.proofs.lemmas.List.{append-nil, map-append}
 use Rattle.std.proofs.lemmas.List.Elements.{filter_map-append}
 use Rattle.std.proofs.lemmas.List.Sums.{sum_by_push}
+use Rattle.abi_base.proofs.lemmas.Filtered.{SpentOn, filtered_front, spent_nothing}
 use Rattle.abi_base.proofs.lemmas.Lists.{take-map_more, drop-map_more}
+use Rattle.abi_base.specs.Budgets.{BudgetState, allowed, fresh}
+use Rattle.abi_base.specs.declared.limit.Limit.TheVariants.{ImportNeeds}
 use Rattle.abi_base.specs.declared.fault.Fault.{Fault}
 use Rattle.abi_base.specs.Outcome.{first}
 use Rattle.elf.specs.declared.symbols.symbol.Symbol.{Symbol}
@@ -53,15 +56,28 @@ module _ (named : ℕ → Option PlainNeed) (indexes : List ℕ) (symbols : List
   import_passed before is so_far =
       so_far ∙ sym (one_more ∙ rw (← is) (append-nil (imports_with named indexes (take i (plain_symbols symbols)))))
 
--- what is left of a budget and the bytes of the names of imports do not exceed the budget, import by import
-pub short_added : (most left next : ℕ) (before more : List Import) (e : Import) → more ≡ before ++ e ∷ [] → left ≡ next + need_bytes (plain_import e) → all_need_bytes (plain_imports before) + left ≤ most
-    → all_need_bytes (plain_imports more) + next ≤ most
-short_added most left next before more e grown spent so_far =
-    let sum : all_need_bytes (plain_imports more) ≡ all_need_bytes (plain_imports before) + need_bytes (plain_import e) =
+-- ---- what the imports count
+
+pub bytes_added : (before more : List Import) (e : Import) → more ≡ before ++ e ∷ []
+    → all_need_bytes (plain_imports more) ≡ all_need_bytes (plain_imports before) + need_bytes (plain_import e)
+bytes_added before more e grown =
     ap (λ (l : List Import). all_need_bytes (plain_imports l)) grown
     ∙ ap all_need_bytes (map-append plain_import before (e ∷ []))
-    ∙ sum_by_push need_bytes (plain_imports before) (plain_import e) in
-    omega arith
+    ∙ sum_by_push need_bytes (plain_imports before) (plain_import e)
+
+pub bytes_start : (units : ℕ) (imports : List Import) (budget : BudgetState) → imports ≡ [] → budget ≡ fresh ImportNeeds units
+    → SpentOn ImportNeeds units (all_need_bytes (plain_imports imports)) budget
+bytes_start units imports budget none is =
+    subst (λ (l : List Import). SpentOn ImportNeeds units (all_need_bytes (plain_imports l)) budget) (sym none) (spent_nothing ImportNeeds units budget is)
+
+-- where the limit is passed at an import, all imports together count more than is allowed
+pub bytes_past : (named : ℕ → Option PlainNeed) (indexes : List ℕ) (symbols : List PlainSymbol) (i units : ℕ) (before : List Import) (e : Import) (budget : BudgetState)
+    → SpentOn ImportNeeds units (all_need_bytes (plain_imports before)) budget → plain_imports (before ++ e ∷ []) ≡ imports_with named indexes (take (i + 1) symbols)
+    → budget.most < budget.taken + need_bytes (plain_import e) → allowed ImportNeeds units < all_need_bytes (imports_with named indexes symbols)
+bytes_past named indexes symbols i units before e budget so_far read above =
+    let sum : all_need_bytes (imports_with named indexes (take (i + 1) symbols)) ≡ all_need_bytes (plain_imports before) + need_bytes (plain_import e) =
+    ap all_need_bytes (sym read) ∙ bytes_added before (before ++ e ∷ []) e refl in
+    omega (arith, filtered_front need_bytes (import_of named indexes) symbols (i + 1), sum, above, so_far.most, so_far.taken)
 
 -- ---- what indexes name, said in two ways
 

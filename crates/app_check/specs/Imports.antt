@@ -1,19 +1,23 @@
 -- The imports of an application, from its dynamic symbols, their version indexes and its version needs, and the first fault of the
 -- application.
-use Rattle.std.specs.Prelude.{ℕ, ◌+◌, ◌*◌, ◌==◌, nat_le, Bool, not, ◌||◌, ◌&&◌, is_none, is_some, if◌then◌else◌, List, [], ◌∷◌, length, map, slice_get, Option, Some, None, unwrap_or}
+use Rattle.std.specs.Prelude.{◌≡◌, ◌<◌, ◌⊎◌, ℕ, ◌+◌, ◌*◌, ◌==◌, nat_le, Bool, not, ◌||◌, ◌&&◌, is_none, is_some, if◌then◌else◌, List, [], ◌∷◌, length, map, slice_get, Option, Some, None, unwrap_or}
 use Rattle.std.specs.List.{filter_map, sum_by}
 use Rattle.std.specs.Option.{option_map_or}
 use Rattle.abi_base.specs.declared.fault.Fault.{Fault}
 use Rattle.abi_base.specs.declared.fault.FaultKind.TheVariants as kind
+use Rattle.abi_base.specs.declared.limit.Limit.{Limit}
+use Rattle.abi_base.specs.declared.limit.Limit.TheVariants as limit
+use Rattle.abi_base.specs.Budgets.{allowed}
 use Rattle.abi_base.specs.Elf.{stb_global, stb_weak, stb_gnu_unique, shn_undef, sym_size}
 use Rattle.abi_base.specs.GnuVersions.{ver_ndx_global}
 use Rattle.abi_base.specs.Outcome.{fault_if, first}
 use Rattle.elf.specs.file.Elf.{elf_fault}
 use Rattle.elf.specs.symbols.Dynamic.{dynamic_fault}
-use Rattle.elf.specs.symbols.Symbols.{PlainSymbol, symbols_of, symbol_fault}
+use Rattle.elf.specs.symbols.Symbols.{PlainSymbol, symbols_of, symbol_fault, PassesSymbols}
+use Rattle.elf.specs.versions.Definitions.{PassesDefinitions}
 use Rattle.elf.specs.versions.Versions.{version_fault}
 use Rattle.elf_needs.specs.Indexes.{indexes_of}
-use Rattle.elf_needs.specs.Needs.{PlainNeed, need_with, needs_fault}
+use Rattle.elf_needs.specs.Needs.{PlainNeed, need_with, needs_fault, PassesNeeds}
 
 -- an import, without the addresses of its names in memory
 pub record PlainImport : Type 0 where
@@ -29,9 +33,9 @@ need_bytes i = option_map_or (λ n. length n.version + length n.file) i.need 0
 abbrev pub all_need_bytes : List PlainImport → ℕ
 all_need_bytes imports = sum_by need_bytes imports
 
--- how many there may be with this many symbols: 64 times the bytes of the symbol table
+-- how many there may be with this many symbols, by the bytes of their records
 abbrev pub most_need_bytes : ℕ → ℕ
-most_need_bytes symbols = 64 * (symbols * sym_size)
+most_need_bytes symbols = allowed limit.ImportNeeds (sym_size * symbols)
 
 -- Other files may define the symbol: it is not the reserved one, has the binding GLOBAL, WEAK or GNU_UNIQUE, and has a name.
 abbrev pub is_linked : PlainSymbol → Bool
@@ -95,3 +99,22 @@ app_faults f =
 -- the first fault of an application
 unfoldable pub app_fault : List ℕ → Option Fault
 app_fault f = first (app_faults f)
+
+-- ---- the limits
+
+-- The limit is that on what imports need, and the imports among these symbols count more than it allows.
+abbrev pub PassesImportsWith : (ℕ → Option PlainNeed) → List ℕ → List PlainSymbol → Limit → Type 0
+PassesImportsWith named indexes symbols l =
+    (l ≡ limit.ImportNeeds) × (most_need_bytes (length symbols) < all_need_bytes (imports_with named indexes symbols))
+
+-- the same for the imports of a file
+abbrev pub PassesImports : List ℕ → Limit → Type 0
+PassesImports f l = (l ≡ limit.ImportNeeds) × (most_need_bytes (length (symbols_of f)) < all_need_bytes (imports_of f))
+
+-- the limit on version definitions, on version needs or on what imports need
+abbrev pub ImportsPass : List ℕ → Limit → Type 0
+ImportsPass f l = PassesDefinitions f l ⊎ (PassesNeeds f l ⊎ PassesImports f l)
+
+-- the limit on symbols, or one of those
+abbrev pub AppPasses : List ℕ → Limit → Type 0
+AppPasses f l = PassesSymbols f l ⊎ ImportsPass f l

@@ -5,7 +5,7 @@ ghost use Rattle.abi_base.specs.Limits.{input_limit};
 use crate::import::Import;
 use crate::reading::read_app;
 use crate::using::{may_come_from, wanted_by};
-use abi_base::{Effort, Limit, NoMemory, Refusal, text_at, u64_at};
+use abi_base::{Budget, Limit, NoMemory, Refusal, text_at, u64_at};
 use abi_types::Export;
 use elf::constants::{D_TAG, D_VAL, DT_NULL, DYN_SIZE, SHN_UNDEF, SHT_DYNAMIC, STB_WEAK};
 use elf::file::{ElfFile, read_elf};
@@ -27,11 +27,11 @@ pub struct Links<'a> {
 }
 
 // Whether this text is at an offset. Only where a text of its length can end is that end looked for and the text compared, as long
-// as there is effort for its bytes: many entries may share one long name.
-fn is_text_at(strings: &[u8], at: u64, text: &[u8], effort: &mut Effort) -> Result<bool, NoMemory> {
+// as the budget allows its bytes: many entries may share one long name.
+fn is_text_at(strings: &[u8], at: u64, text: &[u8], budget: &mut Budget) -> Result<bool, NoMemory> {
     match strings.get((at as usize).saturating_add(text.len())) {
         Some(0) => {
-            effort.spend(text.len())?;
+            budget.take(text.len())?;
             Ok(text_at(strings, at) == Some(text))
         }
         _ => Ok(false),
@@ -46,14 +46,14 @@ fn names_library(file: &ElfFile, library: &[u8]) -> Result<bool, NoMemory> {
     let Some(strings) = file.strings(section.link) else {
         return Ok(false);
     };
-    let mut effort = Effort::for_table(Limit::Notes, section.bytes, strings);
+    let mut budget = Budget::of(Limit::NeededFiles, section.bytes.len() + strings.len());
     for entry in section.bytes.chunks_exact(DYN_SIZE) {
         let tag = u64_at(entry, D_TAG);
         if tag == Some(DT_NULL) {
             return Ok(false);
         }
         if let (Some(DT_NEEDED), Some(at)) = (tag, u64_at(entry, D_VAL))
-            && is_text_at(strings, at, library, &mut effort)?
+            && is_text_at(strings, at, library, &mut budget)?
         {
             return Ok(true);
         }

@@ -1,20 +1,22 @@
 // Reads the imports of an application.
-ghost use Rattle.std.specs.Prelude.{◌≡◌, ◌≤◌, ◌+◌, ◌++◌, ◌∷◌, [], None, length, IfOk, OnOk};
+ghost use Rattle.std.specs.Prelude.{◌≡◌, ◌≤◌, ◌<◌, ◌^◌, ◌+◌, ◌++◌, ◌∷◌, [], None, length, IfErr, IfOk, OnOk};
 ghost use Rattle.std.specs.Option.{option_map};
+ghost use Rattle.abi_base.specs.declared.fault.NoMemory.TheVariants.{Allocation};
+ghost use Rattle.abi_base.specs.Budgets.{with_taken};
 ghost use Rattle.abi_base.specs.Limits.{input_limit};
-ghost use Rattle.abi_base.specs.Outcome.{Judges, first};
+ghost use Rattle.abi_base.specs.Outcome.{Judges, OnLimit, OnPast, first};
 ghost use Rattle.elf.specs.symbols.Plain.{plain_symbol, plain_symbols};
 ghost use Rattle.elf.specs.symbols.Symbols.{symbols_of};
 ghost use Rattle.elf.specs.versions.Versions.{version_fault};
 ghost use Rattle.elf_needs.specs.Indexes.{indexes_of};
 ghost use Rattle.elf_needs.specs.Needs.{needs_fault};
 ghost use Rattle.elf_needs.specs.Plain.{plain_need, needed};
-ghost use Rattle.app_check.specs.Imports.{index_in, need_by, need_bytes, all_need_bytes, most_need_bytes, imports_with, import_fault_of, import_fault_with, imports_fault, imports_of, app_fault};
+ghost use Rattle.app_check.specs.Imports.{index_in, need_by, need_bytes, all_need_bytes, most_need_bytes, imports_with, import_fault_of, import_fault_with, imports_fault, imports_of, app_fault, AppPasses, ImportsPass, PassesImportsWith};
 ghost use Rattle.app_check.specs.Imports as spec;
 ghost use Rattle.app_check.specs.Plain.{plain_import, plain_imports};
 
 use crate::import::Import;
-use abi_base::{Effort, Fault, FaultKind, INPUT_LIMIT, Limit, NoMemory, Refusal};
+use abi_base::{Budget, Fault, FaultKind, INPUT_LIMIT, Limit, NoMemory, Refusal};
 use elf::constants::{SHN_UNDEF, STB_GLOBAL, STB_GNU_UNIQUE, STB_WEAK, SYM_SIZE, VER_NDX_GLOBAL};
 use elf::file::{ElfFile, read_elf};
 use elf::symbols::{Symbol, soname, symbols};
@@ -98,19 +100,35 @@ fn import_fault(needs: &Needs, indexes: &Indexes, symbols: &[Symbol]) -> Option<
     None
 }
 
-// Keeps an import behind those before it, as long as there is effort for the names of its version and of its file.
+// How many bytes the names of a version and of its file have.
+fn bytes_of(need: &Need) -> usize
+    ensures { result ≡ length need.now.version.now + length need.now.file.now }
+{
+    need.version.len() + need.file.len()
+}
+
+// How many bytes the names of the version and of the file have that an import needs.
+fn need_len(import: &Import) -> usize
+    ensures { result ≡ need_bytes (plain_import import.now) }
+{
+    match &import.need {
+        Some(need) => bytes_of(need),
+        None => 0,
+    }
+}
+
+// Keeps an import behind those before it, as long as the budget allows the names of its version and of its file.
 fn keep<'a>(
     imports: &mut Vec<Import<'a>>,
     import: Import<'a>,
-    effort: &mut Effort,
+    budget: &mut Budget,
 ) -> Result<(), NoMemory>
     ensures kept { OnOk result (imports.new.items ≡ imports.old.items ++ import.entry ∷ []) }
-    ensures spent { OnOk result (effort.old.left ≡ effort.new.left + need_bytes (plain_import import.entry)) }
+    ensures taken { OnOk result (budget.new ≡ with_taken budget.old (need_bytes (plain_import import.entry))) }
+    ensures within { OnOk result (budget.old.taken + need_bytes (plain_import import.entry) ≤ budget.old.most) }
+    ensures past { IfErr result (λ e. OnLimit e (λ l. (l ≡ budget.old.limit) × (budget.old.most < budget.old.taken + need_bytes (plain_import import.entry)))) }
 {
-    if let Some(need) = import.need {
-        effort.spend(need.version.len())?;
-        effort.spend(need.file.len())?;
-    }
+    budget.take(need_len(&import))?;
     Ok(imports.push(import)?)
 }
 
@@ -122,23 +140,27 @@ fn imports_in<'a>(
     indexes: &Indexes,
     symbols: &[Symbol<'a>],
 ) -> Result<Vec<Import<'a>>, NoMemory>
+    requires { length symbols.now < 2 ^ 32 }
     ensures read { IfOk result (λ imports. plain_imports imports.items ≡ imports_with (needed needs.now) indexes.now (plain_symbols symbols.now)) }
     ensures short { IfOk result (λ imports. all_need_bytes (plain_imports imports.items) ≤ most_need_bytes (length symbols.now)) }
+    ensures past { IfErr result (λ e. OnLimit e (PassesImportsWith (needed needs.now) indexes.now (plain_symbols symbols.now))) }
 {
     let mut imports = Vec::new(alloc);
-    let mut effort = Effort::for_bytes(Limit::VersionNeeds, symbols.len().saturating_mul(SYM_SIZE));
+    let mut budget = Budget::of(Limit::ImportNeeds, SYM_SIZE * symbols.len());
     for symbol in symbols {
         if let Some(import) = import_of(needs, indexes, symbol) {
-            keep(&mut imports, import, &mut effort)?;
+            keep(&mut imports, import, &mut budget)?;
         }
     }
     Ok(imports)
 }
 
 // The version indexes of the symbols of a file whose versions have no fault. Then the table of indexes has none either.
+#[tactic(auto, using(crate::proofs::LimitLemmas::never_past))]
 fn sound_indexes(alloc: Global, file: &ElfFile<'_>, symbols: usize) -> Result<Indexes, NoMemory>
     requires { version_fault file.now symbols ≡ None }
-    ensures { IfOk result (λ indexes. indexes ≡ indexes_of file.now symbols) }
+    ensures read { IfOk result (λ indexes. indexes ≡ indexes_of file.now symbols) }
+    ensures named { IfErr result (λ e. e ≡ Allocation) }
 {
     match indexes(alloc, file, symbols) {
         Ok(indexes) => Ok(indexes),
@@ -149,16 +171,18 @@ fn sound_indexes(alloc: Global, file: &ElfFile<'_>, symbols: usize) -> Result<In
 }
 
 // The imports among the symbols of a file. Err is the first fault of its versions, its version needs and its imports.
-#[tactic(auto, unfolding(crate::specs::Imports::imports_of))]
+#[tactic(auto, using(crate::proofs::LimitLemmas::definitions_pass, crate::proofs::LimitLemmas::needs_pass), unfolding(crate::specs::Imports::imports_of))]
 fn imports_among<'a>(
     alloc: Global,
     file: &ElfFile<'a>,
     symbols: &[Symbol<'a>],
 ) -> Result<Vec<Import<'a>>, Refusal>
-    requires { plain_symbols symbols.now ≡ symbols_of file.now }
+    requires symbols { plain_symbols symbols.now ≡ symbols_of file.now }
+    requires few { length symbols.now < 2 ^ 32 }
     ensures judged { Judges result (first (version_fault file.now (length (symbols_of file.now)) ∷ needs_fault file.now ∷ imports_fault file.now ∷ [])) }
     ensures read { IfOk result (λ imports. plain_imports imports.items ≡ imports_of file.now) }
     ensures short { IfOk result (λ imports. all_need_bytes (plain_imports imports.items) ≤ most_need_bytes (length (symbols_of file.now))) }
+    ensures past { IfErr result (λ e. OnPast e (ImportsPass file.now)) }
 {
     versions(alloc, file, symbols.len())?;
     let needs = needs(alloc, file)?;
@@ -172,13 +196,14 @@ fn imports_among<'a>(
 
 /// The imports of an application, in the order of their symbols. Err is the first fault of `ShortFile` to
 /// `VersionDefinition`, of `VersionNeed` and of `ImportVersion`. Imports can share a version and a file with long names: where these
-/// names, counted for each import, exceed a budget for the symbol table (`Effort`), the answer is `NoMemory`.
-#[tactic(auto, unfolding(crate::specs::Imports::app_fault))]
+/// names, counted for each import, are more than the limit on them allows, the answer is `Past`.
+#[tactic(auto, using(crate::proofs::LimitLemmas::symbols_pass, crate::proofs::LimitLemmas::imports_pass), unfolding(crate::specs::Imports::app_fault))]
 pub fn read_app<'a>(alloc: Global, bytes: &'a [u8]) -> Result<Vec<Import<'a>>, Refusal>
     requires { length bytes.now ≤ input_limit }
     ensures judged { Judges result (app_fault bytes.now) }
     ensures read { IfOk result (λ imports. plain_imports imports.items ≡ imports_of bytes.now) }
     ensures short { IfOk result (λ imports. all_need_bytes (plain_imports imports.items) ≤ most_need_bytes (length (symbols_of bytes.now))) }
+    ensures past { IfErr result (λ e. OnPast e (AppPasses bytes.now)) }
 {
     let file = read_elf(bytes)?;
     let symbols = symbols(alloc, &file)?;

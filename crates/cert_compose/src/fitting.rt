@@ -16,7 +16,7 @@ use pair_rules::PartBudget;
 const JOINS_A_LINE: usize = 16;
 
 // How many more may be joined, however few lines there are.
-const JOINS_AT_LEAST: usize = 65_536;
+const JOINS_AT_LEAST: usize = 2_097_152;
 
 // What may still be joined and compared.
 #[derive(Drop)]

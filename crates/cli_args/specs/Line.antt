@@ -35,7 +35,7 @@ Answers words (Err Help) = fault_of line_app words ≡ DisplayHelp ∷ []
 Answers words (Err Wrong) = (kind : ErrorKind) × (kind ≢ DisplayHelp) × (fault_of line_app words ≡ kind ∷ [])
 Answers words (Err NoMemory) = Unit {0}
 
--- the same, where a refusal is the kind of error that `clap` has; if memory runs out, nothing is known
+-- what `clap` finds in the words, where a refusal is the kind of its error; if memory runs out, nothing is known
 abbrev pub Finds : List (List ℕ) → Result ArgMatches ErrorKind → Type 0
 Finds words (Ok m) = (fault_of line_app words ≡ []) × (rows_of (found_of m) ≡ matches_of line_app words)
 Finds words (Err kind) = kind ≢ OutOfMemory → fault_of line_app words ≡ kind ∷ []

@@ -42,7 +42,7 @@ made_of (of_words make) rules style words = Some (make rules words)
 made_of (of_style make) rules style words = option_map (λ s. make rules s words) style
 made_of (of_count make) rules style words = option_map make (trial_count_of (word_at words 0))
 
--- The request of a command with these arguments and options: it takes all options that are given, and so many arguments.
+-- The request of a command with these arguments and options: it takes all options that are given, and this many arguments.
 abbrev pub request_of : Row → (words : List (List ℕ)) (rules report : Option (List ℕ)) → Option PlainRequest
 request_of row words rules report =
     if is_some (needless_of row (is_some rules) (is_some report)) || not (length words == length row.arguments) then None

@@ -15,6 +15,6 @@ most_count = 50000
 abbrev pub is_trial_count : ℕ → Bool
 is_trial_count n = nat_le 1 n && nat_le n most_count
 
--- the number whose decimal spelling without leading zeros is the word, if a trial may have so many functions
+-- the number whose decimal spelling without leading zeros is the word, if a trial may have this many functions
 unfoldable pub trial_count_of : List ℕ → Option ℕ
 trial_count_of word = if is_decimal word && is_trial_count (digits_value 10 word) then Some (digits_value 10 word) else None

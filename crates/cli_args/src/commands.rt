@@ -87,7 +87,7 @@ pub enum Request<'a> {
     Entries(&'a str),
     /// The exports of the library with this name.
     Exports(&'a str),
-    /// The check of two generated libraries with so many functions, from 1 to 50,000.
+    /// The check of two generated libraries with this many functions, from 1 to 50,000.
     Trial(u32),
     /// The certificate of version 2 to which this one of version 1 is migrated.
     Migrate(CertificateWords<'a>),
@@ -163,7 +163,7 @@ pub(crate) struct Taken {
     pub count: usize,
 }
 
-// So many arguments, and no option.
+// This many arguments, and no option.
 const fn arguments(count: usize) -> Taken
     ensures rules { result.rules ≡ false }
     ensures makings { result.makings ≡ Makings.Words }
@@ -189,7 +189,7 @@ const fn number() -> Taken
     }
 }
 
-// So many arguments, and `--rules`.
+// This many arguments, and `--rules`.
 const fn with_rules(count: usize) -> Taken
     ensures rules { result.rules ≡ true }
     ensures makings { result.makings ≡ Makings.Words }
@@ -202,7 +202,7 @@ const fn with_rules(count: usize) -> Taken
     }
 }
 
-// So many arguments, and both options.
+// This many arguments, and both options.
 const fn with_report(count: usize) -> Taken
     ensures rules { result.rules ≡ true }
     ensures makings { result.makings ≡ Makings.Style }

@@ -44,7 +44,7 @@ fn request_in<'a>(line: Line<'_, 'a>) -> Option<Request<'a>>
     requested(name, line.files.unwrap_or(&[]), line.rules, line.report)
 }
 
-// The request of a command with these arguments and options: it takes all options that are given, and so many arguments.
+// The request of a command with these arguments and options: it takes all options that are given, and this many arguments.
 fn requested<'a>(
     name: CommandName,
     words: &[&'a str],
@@ -148,7 +148,7 @@ fn is_decimal(word: &str) -> bool
     has_only_digits(word) && word.as_bytes().first() != Some(&b'0')
 }
 
-/// The number with this decimal spelling, if a trial may have so many functions.
+/// The number with this decimal spelling, if a trial may have this many functions.
 #[tactic(auto, unfolding(crate::specs::Trials::trial_count_of))]
 pub(crate) fn trial_count(word: &str) -> Option<u32>
     ensures { result ≡ trial_count_of word.now }

@@ -64,7 +64,7 @@ pub fn exports_takes_one_file()
     ensures { (library : List ℕ) → IsNoOption library → arguments_by (codes "exports" ∷ library ∷ []) ≡ request (exports library) }
 {}
 
-/// `trial` with a decimal number from 1 to 50,000 requests a trial of so many functions.
+/// `trial` with a decimal number from 1 to 50,000 requests a trial of this many functions.
 pub fn trial_takes_a_number()
     ensures { (n : ℕ) → 1 ≤ n → n ≤ most_count → arguments_by (codes "trial" ∷ decimal n ∷ []) ≡ request (trial n) }
 {}

@@ -106,7 +106,7 @@ address_of_entry d e =
     if tag_at d.tree e == dw_tag_subprogram then entered_at d e (own_of d.tree e dw_at_entry_pc)
     else (if tag_at d.tree e == dw_tag_variable then variable_address_of d e else Ok None)
 
--- the same, or None where it has a fault
+-- an address, or None where it has a fault
 abbrev pub or_none : Result (Option ℕ) Fault → Option ℕ
 or_none (Ok address) = address
 or_none (Err fault) = None

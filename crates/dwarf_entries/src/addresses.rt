@@ -212,7 +212,7 @@ fn address(source: &Source, e: EntryNumber) -> Result<Option<u64>, Fault>
     Ok(None)
 }
 
-// The same, or None where it has a fault.
+// The address of an entry, or None where it has a fault.
 pub(crate) fn entry_address(source: &Source, e: EntryNumber) -> Option<u64>
     requires { e < length source.now.tree.entries }
     ensures { result ≡ entry_address_of source.now e }

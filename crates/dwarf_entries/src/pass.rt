@@ -83,7 +83,7 @@ fn name_fault(source: &Source, e: EntryNumber) -> Option<Fault>
     }
 }
 
-// The same, if its kind is `Text` or `Index`: the first of the rows on an entry's name.
+// The first of the rows on an entry's name, if its kind is `Text` or `Index`.
 fn name_row(source: &Source, e: EntryNumber) -> Option<Fault>
     requires { e < length source.now.tree.entries }
     ensures { result ≡ first (name_rows source.now e) }

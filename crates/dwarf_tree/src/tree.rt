@@ -212,7 +212,7 @@ impl<'a> Tree<'a> {
         self.read_own(e, name)
     }
 
-    // The same, with a contract on the bytes.
+    // Reads it from the bytes, with a contract on them.
     #[inline(never)]
     fn read_own(&self, e: EntryNumber, name: u64) -> Option<Value>
         requires { e < length self.now.entries }
@@ -235,7 +235,7 @@ impl<'a> Tree<'a> {
         self.read_reference(e, name)
     }
 
-    // The same, with a contract on the bytes.
+    // Reads it from the bytes, with a contract on them.
     #[inline(never)]
     fn read_reference(&self, e: EntryNumber, name: u64) -> Option<DebugInfoOffset>
         requires { e < length self.now.entries }
@@ -258,7 +258,7 @@ impl<'a> Tree<'a> {
         self.read_text(e, name)
     }
 
-    // The same, with a contract on the bytes.
+    // Reads it from the bytes, with a contract on them.
     #[inline(never)]
     fn read_text(&self, e: EntryNumber, name: u64) -> Option<DebugStrOffset>
         requires { e < length self.now.entries }

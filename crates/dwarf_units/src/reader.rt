@@ -1,17 +1,18 @@
 // The entries of a unit, one at a time.
-ghost use Rattle.std.specs.Prelude.{◌≡◌, ◌≤◌, ◌||◌, ◌&&◌, not, is_some};
+ghost use Rattle.std.specs.Prelude.{◌≡◌, ◌≤◌, ◌<◌, ◌||◌, ◌&&◌, not, is_some, Bool, IfSome, Ok, Some};
 ghost use Rattle.abi_base.specs.Outcome.{fault_if};
 ghost use Rattle.abi_base.specs.Runs.{NextIs};
 ghost use Rattle.abi_base.specs.declared.fault.FaultKind.TheVariants as kind;
-ghost use Rattle.dwarf_units.specs.Following.{ComesTo};
+ghost use Rattle.dwarf_units.specs.Following.{ComesTo, IsNext};
 ghost use Rattle.dwarf_units.specs.Plain.{plain_unit};
-ghost use Rattle.dwarf_units.specs.Units.{open_lists};
+ghost use Rattle.dwarf_units.specs.Units.{entries_left, open_lists, token_at};
 ghost use Rattle.dwarf_units.specs.Units as spec;
 
 use crate::outline::Outline;
-use crate::tokens::{Token, token_in};
+use crate::tokens::{Token, end_in, entry_in, token_in};
 use crate::unit::Unit;
-use abi_base::{Effort, Fault, FaultKind, Refusal};
+use abi_base::{Effort, Fault, FaultKind, Refusal, uleb};
+use dwarf_forms::abbreviations::AbbreviationCode;
 use dwarf_forms::laws::reading_moves_on_inside_the_unit;
 use std::alloc::Global;
 use std::marker::Model;
@@ -34,7 +35,7 @@ impl<'u, 'a> Model for Entries<'u, 'a> {
     ghost use Rattle.abi_base.specs.declared.fault.Fault.{Fault};
     ghost use Rattle.abi_base.specs.Runs.{Run};
     ghost use Rattle.dwarf_units.specs.declared.entry.Entry.{Entry};
-    ghost use Rattle.dwarf_units.specs.Units.{entries_left, open_lists};
+    ghost use Rattle.dwarf_units.specs.Units.{entries_left, open_lists, token_at};
     ghost use Rattle.dwarf_units.specs.Plain.{plain_unit};
 
     ghost Value = { Run Entry (Option Fault) };
@@ -74,10 +75,97 @@ pub struct Following<'u, 'a> {
     pub lists: u32,
 }
 
+// The offset after the ends of lists at an offset, and the number of sibling lists that are open there.
+#[inline(always)]
+#[tactic(auto, using(crate::proofs::EntriesLeft::left_pass, crate::proofs::TokenLaws::token_moves))]
+fn pass_ends(unit: &Unit<'_>, from: usize, nested: u32) -> (usize, u32)
+    requires { nested ≤ from }
+    ensures few { result.1 ≤ result.0 }
+    ensures same { (met : Bool) → entries_left (plain_unit unit.now) (from, Some nested) met ≡ entries_left (plain_unit unit.now) (result.0, Some result.1) met }
+{
+    reading_moves_on_inside_the_unit();
+    let mut at = from;
+    let mut lists = nested;
+    'ends: while lists > 0 && (at as u64) < unit.end.get() {
+        let Some(after) = end_in(unit, at, lists) else {
+            return (at, lists);
+        };
+        at = after;
+        lists -= 1;
+    }
+    (at, lists)
+}
+
+// The entry at an offset before the unit's end, inside this many open sibling lists. None means nothing: `token_in` answers in all
+// cases, but moves a whole token.
+#[inline(always)]
+#[tactic(auto, unfolding(crate::specs::Units::token_at))]
+fn inner_entry_in<'u, 'a>(unit: &'u Unit<'a>, at: usize, lists: u32) -> Option<Following<'u, 'a>>
+    requires before { at < unit.now.end }
+    requires some { 0 < lists }
+    requires few { lists ≤ at }
+    ensures { IfSome result (λ f. token_at (plain_unit unit.now) (at, Some lists) ≡ Ok (Some f.entry, (f.at, Some f.lists))) }
+{
+    let Some((code, after)) = uleb(&unit.info[..unit.end.get() as usize], at) else {
+        return None;
+    };
+    if code == 0 {
+        return None;
+    }
+    match entry_in(unit, at, lists, AbbreviationCode::new(code), after) {
+        Ok((entry, (children, after))) => Some(Following {
+            entry,
+            at: after,
+            lists: if children { lists + 1 } else { lists },
+        }),
+        Err(_) => None,
+    }
+}
+
+// The next entry at an offset inside a list. None means nothing: `any_in` answers in all cases.
+#[inline(always)]
+fn inner_next<'u, 'a>(
+    unit: &'u Unit<'a>,
+    from: usize,
+    nested: u32,
+    met: bool,
+) -> Option<Following<'u, 'a>>
+    requires { nested ≤ from }
+    ensures { IfSome result (IsNext (plain_unit unit.now) (from, Some nested) met) }
+{
+    reading_moves_on_inside_the_unit();
+    let (at, lists) = pass_ends(unit, from, nested);
+    if lists == 0 || at as u64 >= unit.end.get() {
+        return None;
+    }
+    inner_entry_in(unit, at, lists)
+}
+
 // The next entry at an offset, with this many open sibling lists, or None at the unit's end.
-#[inline]
-#[tactic(auto, using(crate::proofs::EntriesLeft::left_pass, crate::proofs::EntriesLeft::left_end, crate::proofs::TokenLaws::token_moves))]
+#[inline(always)]
 fn next_in<'u, 'a>(
+    alloc: Global,
+    unit: &'u Unit<'a>,
+    from: usize,
+    inside: Option<u32>,
+    met: bool,
+) -> Result<Option<Following<'u, 'a>>, Refusal>
+    requires { open_lists inside ≤ from }
+    ensures { ComesTo (plain_unit unit.now) (from, inside) met result }
+{
+    // A fast path, since most entries are inside a list and have no fault.
+    if let Some(nested) = inside {
+        if let Some(next) = inner_next(unit, from, nested, met) {
+            return Ok(Some(next));
+        }
+    }
+    any_in(alloc, unit, from, inside, met)
+}
+
+// The same, for any entry.
+#[inline(never)]
+#[tactic(auto, using(crate::proofs::EntriesLeft::left_pass, crate::proofs::EntriesLeft::left_end, crate::proofs::TokenLaws::token_moves))]
+fn any_in<'u, 'a>(
     alloc: Global,
     unit: &'u Unit<'a>,
     from: usize,

@@ -12,8 +12,9 @@ use std::alloc::Global;
 use std::collections::HashMap;
 use std::rc::Rc;
 
-// Tables whose sizes add up to more bytes are not stored together. Few libraries have so many.
-const MOST_KEPT_BYTES: usize = 0x10_0000;
+// Tables whose sizes add up to more bytes are not stored together. A table takes about 20 bytes of memory for each of its bytes.
+// Compilers give each unit a table of its own, and units that share one mostly follow one another.
+const MOST_KEPT_BYTES: usize = 0x2_0000;
 
 /// The tables that were read, and the budget for reading more.
 #[derive(Drop)]

@@ -1,5 +1,5 @@
 // Tokens: entries, and the ends of sibling lists.
-ghost use Rattle.std.specs.Prelude.{◌≡◌, ◌≤◌, ◌<◌, ◌==◌, find, Some, None};
+ghost use Rattle.std.specs.Prelude.{◌≡◌, ◌≤◌, ◌<◌, ◌-◌, ◌==◌, find, IfSome, Ok, Some, None};
 ghost use Rattle.std.specs.Option.{option_copied};
 ghost use Rattle.abi_base.specs.declared.fault.FaultKind.TheVariants as kind;
 ghost use Rattle.abi_base.specs.declared.fault.Refusal.TheVariants as refusal;
@@ -53,10 +53,10 @@ fn tree(at: usize) -> Refusal
     })
 }
 
-// The entry that begins with a code, whether it has children, and the offset after it.
+/// The entry that begins with a code, whether it has children, and the offset after it.
 #[inline(always)]
 #[tactic(auto, unfolding(crate::specs::Units::entry_at))]
-fn entry_in<'u, 'a>(
+pub fn entry_in<'u, 'a>(
     unit: &'u Unit<'a>,
     at: usize,
     depth: u32,
@@ -202,6 +202,22 @@ fn inner_in<'u, 'a>(unit: &'u Unit<'a>, at: usize, lists: u32) -> Result<Token<'
         }),
         Err(fault) => Err(Refusal::Fault(fault)),
     }
+}
+
+/// The offset after the code 0 at an offset before the unit's end, which ends one of this many open sibling lists. None where no
+/// list ends there.
+#[inline(always)]
+#[tactic(auto, unfolding(crate::specs::Units::token_at))]
+pub fn end_in(unit: &Unit<'_>, at: usize, lists: u32) -> Option<usize>
+    requires before { at < unit.now.end }
+    requires some { 0 < lists }
+    ensures ends { IfSome result (λ after. token_at (plain_unit unit.now) (at, Some lists) ≡ Ok (None, (after, Some (lists - 1)))) }
+    ensures after { IfSome result (λ after. at < after) }
+{
+    let Some((code, after)) = uleb(&unit.info[..unit.end.get() as usize], at) else {
+        return None;
+    };
+    if code == 0 { Some(after) } else { None }
 }
 
 /// The token at an offset, with this many open sibling lists, or None before the root. Allocates only at the root.

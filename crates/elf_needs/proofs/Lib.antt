@@ -1,3 +1,4 @@
+pub mod Counting
 pub mod KeptEntries
 pub mod Ranges
 pub mod ReadNeeds

@@ -69,6 +69,11 @@ also : (b : Option Entry) (c : Option Entry) → option_or (option_map said_by b
 also None c = refl
 also (Some x) c = refl
 
+-- a need that is not malformed, and of which no entry is bad, has no fault
+pub sound_need : (table strings : List ℕ) (count number : ℕ) → is_malformed table strings count number ≡ false → fault_if (has_bad_entry table strings number) kind.VersionNeed number ≡ None
+    → need_fault table strings count number ≡ None
+sound_need table strings count number whole none = rw (whole, fault_if-none (has_bad_entry table strings number) kind.VersionNeed number none) refl
+
 pub read_more : (table strings : List ℕ) (count number at next_at : ℕ) (by_index next : ByIndex) → ReadBefore table strings count number at by_index → number < count
     → is_malformed table strings count number ≡ false → fault_if (has_bad_entry table strings number) kind.VersionNeed number ≡ None → next_at ≡ place_of table (number + 1)
     → ((q : ℕ) → need_under next q ≡ option_or (need_under by_index q) (need_among (entries_of_need table strings number) q))
@@ -76,12 +81,9 @@ pub read_more : (table strings : List ℕ) (count number at next_at : ℕ) (by_i
 read_more table strings count number at next_at by_index next so_far lt whole none place kept = record {
   place = place;
   kept = λ q. kept_at q;
-  judged = sym (first_from-step (need_fault table strings count) number count lt sound) ∙ so_far.judged;
+  judged = sym (first_from-step (need_fault table strings count) number count lt (sound_need table strings count number whole none)) ∙ so_far.judged;
 }
   where
-    sound : need_fault table strings count number ≡ None
-    sound = rw (whole, fault_if-none (has_bad_entry table strings number) kind.VersionNeed number none) refl
-
     grown : entries_of table strings (number + 1) ≡ entries_of table strings number ++ entries_of_need table strings number
     grown =
         ap (flat_map (entries_of_need table strings)) (below_more number)

@@ -2,13 +2,16 @@
 -- header's info counts. Each need has the name of a file, a list of auxiliary entries, and the offset of the next need. An
 -- auxiliary entry has an index, the name of a version of that file, and the offset of the next entry. The section's link is the
 -- index of the string table. All look-ups are total; where a need is damaged, its fault says that they mean nothing.
-use Rattle.std.specs.Prelude.{ℕ, zero, suc, ◌+◌, ◌%◌, ◌==◌, nat_lt, Bool, false, not, ◌||◌, ◌&&◌, is_none, List, [], ◌∷◌, length, map, find, Option, unwrap_or, option_and_then}
-use Rattle.std.specs.List.{range_with_len, list_any, flat_map}
+use Rattle.std.specs.Prelude.{◌≡◌, ◌≤◌, ℕ, zero, suc, ◌+◌, ◌%◌, ◌==◌, nat_lt, Bool, false, not, ◌||◌, ◌&&◌, is_none, List, [], ◌∷◌, length, map, find, Option, unwrap_or, option_and_then}
+use Rattle.std.specs.List.{range_with_len, list_any, flat_map, sum_by}
 use Rattle.std.specs.Option.{option_map, option_map_or}
 use Rattle.abi_base.specs.declared.fault.Fault.{Fault}
 use Rattle.abi_base.specs.declared.fault.FaultKind.TheVariants as kind
 use Rattle.abi_base.specs.declared.fault.Refusal.{Refusal}
 use Rattle.abi_base.specs.declared.fault.Refusal.TheVariants as refusal
+use Rattle.abi_base.specs.declared.limit.Limit.{Limit}
+use Rattle.abi_base.specs.declared.limit.Limit.TheVariants as limit
+use Rattle.abi_base.specs.Budgets.{allowed, counted, Passes}
 use Rattle.abi_base.specs.GnuVersions.{sht_gnu_verneed, versym_hidden}
 use Rattle.abi_base.specs.Numbers.{number, text_at}
 use Rattle.abi_base.specs.Outcome.{fault_if, first}
@@ -150,3 +153,37 @@ need_faults f = strings_fault f ∷ map (need_fault (need_table f) (need_strings
 -- the first fault of the needs of a file
 unfoldable pub needs_fault : List ℕ → Option Fault
 needs_fault f = first (need_faults f)
+
+-- ---- the limit
+
+-- what an auxiliary entry counts: the bytes of its record and of its version's name
+abbrev pub entry_cost : Entry → ℕ
+entry_cost e = vernaux_size + length e.version
+
+-- what the first n auxiliary entries of a need count together
+abbrev pub entries_cost : List ℕ → List ℕ → ℕ → ℕ → ℕ
+entries_cost table strings k n = sum_by entry_cost (first_entries table strings k n)
+
+-- what a need counts: the bytes of its record and of its file's name, and what all its auxiliary entries count
+abbrev pub need_cost : List ℕ → List ℕ → ℕ → ℕ
+need_cost table strings k = verneed_size + length (unwrap_or (file_at table strings k) []) + entries_cost table strings k (entry_count table k)
+
+-- how much the limit allows, by the bytes of the section and of its string table
+abbrev pub needs_allowed_in : List ℕ → List ℕ → ℕ
+needs_allowed_in table strings = allowed limit.VersionNeeds (length table + length strings)
+
+-- The limit is that on version needs, and a need is reached with which more is counted than it allows.
+abbrev pub PassesNeedsIn : List ℕ → List ℕ → ℕ → Limit → Type 0
+PassesNeedsIn table strings count l =
+    (l ≡ limit.VersionNeeds) × Passes (needs_allowed_in table strings) (need_fault table strings count) (need_cost table strings) count
+
+-- what the needs of a table count together is at most what is allowed
+abbrev pub AreFewNeedsIn : List ℕ → List ℕ → ℕ → Type 0
+AreFewNeedsIn table strings count = counted (need_cost table strings) count ≤ needs_allowed_in table strings
+
+-- the same for the needs of a file
+unfoldable pub PassesNeeds : List ℕ → Limit → Type 0
+PassesNeeds f l = PassesNeedsIn (need_table f) (need_strings f) (need_count f) l
+
+unfoldable pub AreFewNeeds : List ℕ → Type 0
+AreFewNeeds f = AreFewNeedsIn (need_table f) (need_strings f) (need_count f)

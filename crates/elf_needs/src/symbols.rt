@@ -1,9 +1,10 @@
 // Reads the version indexes of symbols, without the hidden bit.
-ghost use Rattle.std.specs.Prelude.{◌≡◌, ◌≤◌, ◌+◌, ◌*◌, ◌%◌, length, map, IfOk, IfSome};
+ghost use Rattle.std.specs.Prelude.{◌≡◌, ◌≤◌, ◌+◌, ◌*◌, ◌%◌, length, map, IfErr, IfOk, IfSome};
 ghost use Rattle.std.specs.List.{range_with_len};
 ghost use Rattle.std.specs.Option.{option_copied};
+ghost use Rattle.abi_base.specs.declared.fault.NoMemory.TheVariants.{Allocation};
 ghost use Rattle.abi_base.specs.GnuVersions.{versym_hidden, versym_size};
-ghost use Rattle.abi_base.specs.Outcome.{Judges, Settles};
+ghost use Rattle.abi_base.specs.Outcome.{Judges, OnPast, Settles};
 ghost use Rattle.elf.specs.versions.Versions.{table_fault, index_table, index_in};
 ghost use Rattle.elf_needs.specs.Indexes.{indexes_of};
 
@@ -49,7 +50,8 @@ fn index_at(table: Option<&[u8]>, symbol: usize) -> u16
 // The version indexes of the first `symbols` symbols, in order.
 fn indexes_in(alloc: Global, table: Option<&[u8]>, symbols: usize) -> Result<Vec<u16>, NoMemory>
     requires { IfSome table (λ t. length t.now ≡ versym_size * symbols) }
-    ensures { IfOk result (λ all. all.items ≡ map (λ i. index_in (option_copied table.entry) i % versym_hidden) (range_with_len 0 symbols)) }
+    ensures read { IfOk result (λ all. all.items ≡ map (λ i. index_in (option_copied table.entry) i % versym_hidden) (range_with_len 0 symbols)) }
+    ensures named { IfErr result (λ e. e ≡ Allocation) }
 {
     let mut all = Vec::new(alloc);
     for symbol in 0..symbols {
@@ -63,6 +65,7 @@ fn indexes_in(alloc: Global, table: Option<&[u8]>, symbols: usize) -> Result<Vec
 pub fn indexes(alloc: Global, file: &ElfFile<'_>, symbols: usize) -> Result<Indexes, Refusal>
     ensures judged { Judges result (table_fault file.now symbols) }
     ensures read { IfOk result (λ indexes. indexes ≡ indexes_of file.now symbols) }
+    ensures past { IfErr result (λ e. OnPast e (λ l. ⊥)) }
 {
     let table = table_of(file, symbols)?;
     let all = indexes_in(alloc, table, symbols)?;

@@ -13,7 +13,7 @@ use std::alloc::Global;
 use std::collections::BTreeMap;
 use std::rc::Rc;
 
-// Line programs with more files and directories are not stored together. Few libraries have so many.
+// Line programs with more files and directories are not stored together. Few libraries have that many.
 const MOST_KEPT_ENTRIES: usize = 0x10_0000;
 
 // The units and line programs that were read, and the budget for reading more.

@@ -37,7 +37,7 @@ AreClosed arrows marks = (arrow : ℕ × ℕ) → Contains arrows arrow → IsCl
 abbrev pub ComeFromInside : List (ℕ × ℕ) → ℕ → Type 0
 ComeFromInside arrows count = (arrow : ℕ × ℕ) → Contains arrows arrow → arrow.0 < count
 
--- Passes over so many arrows take all that is no longer left, one byte's effort for each arrow.
+-- Passes over this many arrows take all that is no longer left, one byte's effort for each arrow.
 pub record TakesPasses (arrows before after : ℕ) : Type 0 where
   pub passes : ℕ
   pub are : before ≡ after + passes * arrows

@@ -25,7 +25,7 @@ pub record AreLeading (s : Scope) (a b : ℕ) (exports : List ℕ) : Type 0 wher
   pub ascend : (i j k l : ℕ) → i < j → slice_get exports i ≡ Some k → slice_get exports j ≡ Some l → k < l
   pub exact : (export : ℕ) → Contains exports export ↔ LeadsToPair s a b export
 
--- The least effort for so many visits, arrows and roots: one for each visit and each arrow, and 16 for each root, of which no more
+-- The least effort for this many visits, arrows and roots: one for each visit and each arrow, and 16 for each root, of which no more
 -- is asked than a budget holds.
 abbrev pub least_effort : ℕ → ℕ → ℕ → ℕ
 least_effort visits arrows roots = visits + arrows + min (roots * 16) (2 ^ 64 - 1)

@@ -63,7 +63,7 @@ sides_for app old new rules = sides_used (imports_of app) (library_of old) (libr
 abbrev pub IsCompatibleFor : List ℕ → List ℕ → List ℕ → List ℕ → Type 0
 IsCompatibleFor app old new rules = IsCompatible (sides_for app old new rules)
 
--- The same, for a program that was compiled against the old library and uses only these exports.
+-- What that means for a program that was compiled against the old library and uses only these exports.
 abbrev pub AgreedFor : List ℕ → List ℕ → List ℕ → List ℕ → Type 0
 AgreedFor app old new rules = IsAgreed (sides_for app old new rules)
 

@@ -23,7 +23,7 @@ sides_of old new rules = ruled (library_of old) (library_of new) (rules_of rules
 abbrev pub Compatible : List ℕ → List ℕ → List ℕ → Type 0
 Compatible old new rules = IsCompatible (sides_of old new rules)
 
--- The same, for a program that was compiled against the old library: the sonames agree, each compared old export binds and keeps
+-- What that means for a program that was compiled against the old library: the sonames agree, each compared old export binds and keeps
 -- the rules of exports, and whatever the program may reach from the types of these exports, it finds the same.
 abbrev pub Agreed : List ℕ → List ℕ → List ℕ → Type 0
 Agreed old new rules = IsAgreed (sides_of old new rules)

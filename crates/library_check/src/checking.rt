@@ -88,7 +88,7 @@ fn read_new(alloc: Global, bytes: &[u8]) -> Result<Library<'_, NewIx>, Unchecked
     }
 }
 
-// How many parts the types of a library may have if it is copied: so many for each byte of its file, and some more. Types of one
+// How many parts the types of a library may have if it is copied: a number for each byte of its file, and some more. Types of one
 // library share their parts, and those of a copy do not.
 const BYTES_A_COPIED_PART: usize = 8;
 

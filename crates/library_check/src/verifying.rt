@@ -83,8 +83,8 @@ pub(crate) fn settle(
     old.known();
     old.graph().known();
     new.graph().known();
-    pairs_fit(old, new, cert)?;
     let marks = marks_by(alloc, rules, old)?;
+    pairs_fit(old, new, &marks, cert)?;
     match check_cert(old, new, &marks, cert) {
         Ok(()) => Ok(Verified::Accepted),
         Err(refused) => Ok(Verified::Refused(refused)),

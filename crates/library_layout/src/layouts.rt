@@ -25,9 +25,9 @@ pub enum Layout {
 // each letter: four for each one, in a line of a member, of an overlap and of what lies outside.
 const LETTERS_A_BYTE: usize = 2;
 
-const LETTERS_AT_LEAST: usize = 262_144;
+const LETTERS_AT_LEAST: usize = 4_194_304;
 
-/// The most letters of names that a layout of a file with so many bytes may print.
+/// The most letters of names that a layout of a file with this many bytes may print.
 pub(crate) fn most_letters(bytes: usize) -> usize {
     bytes
         .saturating_mul(LETTERS_A_BYTE)

@@ -3,17 +3,17 @@
 use abi_base::{Limit, NoMemory, taken};
 use abi_types::{Graph, Index, Label, Part, View};
 
-// Types may have one part for so many bytes of the file. Comparing a part takes some sixty bytes of memory.
+// Types may have one part for this many bytes of the file. Comparing a part takes some sixty bytes of memory.
 const BYTES_A_PART: usize = 2;
 
 // How many more they may have, however small the file is.
-const PARTS_AT_LEAST: usize = 65_536;
+const PARTS_AT_LEAST: usize = 1_048_576;
 
 // How many letters the names of types and parts may have, for each byte of the file.
 const LETTERS_A_BYTE: usize = 32;
 
 // How many more they may have, however small the file is.
-const LETTERS_AT_LEAST: usize = 1_048_576;
+const LETTERS_AT_LEAST: usize = 33_554_432;
 
 // How many parts and letters are left.
 #[derive(Drop)]
@@ -31,7 +31,7 @@ fn letters_of<Ix: Index>(part: &Part<Ix>) -> usize {
 }
 
 impl Room {
-    // The room of the types of a file with so many bytes.
+    // The room of the types of a file with this many bytes.
     fn beside(bytes: usize) -> Room {
         Room {
             parts: (bytes / BYTES_A_PART).saturating_add(PARTS_AT_LEAST),
@@ -61,7 +61,7 @@ impl Room {
     }
 }
 
-/// Fails where the types of a file with so many bytes have more parts, or longer names, than they may have.
+/// Fails where the types of a file with this many bytes have more parts, or longer names, than they may have.
 pub(crate) fn ask_room<Ix: Index>(bytes: usize, graph: &Graph<Ix>) -> Result<(), NoMemory> {
     let mut room = Room::beside(bytes);
     for number in 0..graph.len() {

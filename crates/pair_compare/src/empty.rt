@@ -8,7 +8,7 @@ use abi_types::{Library, Marks, OldIx};
 use sha2::{Digest, Sha256};
 use std::alloc::Global;
 
-// A list of so many cleared flags.
+// A list of this many cleared flags.
 fn no_flags(alloc: Global, count: usize) -> Result<List<bool>, NoMemory>
     ensures { IfOk result (λ flags. flags ≡ replicate count false) }
 {

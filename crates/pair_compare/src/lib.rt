@@ -6,12 +6,14 @@ pub mod certificates;
 mod comparing;
 mod empty;
 mod exploring;
+mod finished;
 pub mod laws;
 pub mod reports;
 mod typed;
 
 pub use bound_pair::BoundPair;
-pub use comparing::{Comparison, compare};
+pub use comparing::{Comparison, Verdict, View, compare, compare_by, verdict_of};
 pub use empty::unmarked;
 pub use exploring::explore_types;
+pub use finished::Compared;
 pub use typed::roots;

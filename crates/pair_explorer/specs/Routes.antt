@@ -23,7 +23,7 @@ abbrev pub path_by : (ℕ → Path) → Option Visit → Path
 path_by before None = From 0
 path_by before (Some v) = path_on before v.parent
 
--- the path back along at most so many parents
+-- the path back along at most this many parents
 unfoldable pub path_within : ℕ → List Visit → ℕ → Path
 path_within zero visits n = From 0
 path_within (suc depth) visits n = path_by (path_within depth visits) (slice_get visits n)

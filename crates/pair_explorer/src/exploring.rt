@@ -22,18 +22,18 @@ pub struct Explored {
     pub breaks: List<(usize, Broken)>,
 }
 
-// The limit on visits: so many for each type of both libraries, plus a constant. In libraries built from one source a type meets
+// The limit on visits: a number for each type of both libraries, plus a constant. In libraries built from one source a type meets
 // itself in two ways at most. But two rings of types whose lengths have no common factor meet in all pairs, so a small file can ask
 // for very many visits.
 const VISITS_A_TYPE: usize = 5;
 
-const VISITS_AT_LEAST: usize = 16_384;
+const VISITS_AT_LEAST: usize = 262_144;
 
-// The limit on broken rules: so many for each type of both libraries, plus a constant. Where each type of a library is changed, few
+// The limit on broken rules: a number for each type of both libraries, plus a constant. Where each type of a library is changed, few
 // types break more than two rules.
 const BREAKS_A_TYPE: usize = 4;
 
-const BREAKS_AT_LEAST: usize = 65_536;
+const BREAKS_AT_LEAST: usize = 1_048_576;
 
 // The limits on an exploration of two graphs.
 fn limits_of(ground: &GraphPair) -> VisitLimits {

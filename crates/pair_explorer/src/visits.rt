@@ -139,7 +139,7 @@ impl Visits {
         self.list.len()
     }
 
-    /// The visit with a number, or `None` where there are not so many.
+    /// The visit with a number, or `None` where there are fewer.
     pub fn get(&self, number: usize) -> Option<Visit>
         ensures { result ≡ slice_get self.now number }
     {
@@ -181,7 +181,7 @@ impl Visits {
         self.limits.parts.take(old, new)
     }
 
-    /// Counts so many broken rules. Returns `NoMemory` where fewer may still be.
+    /// Counts this many broken rules. Returns `NoMemory` where fewer may still be.
     pub(crate) fn take_breaks(&mut self, breaks: usize) -> Result<(), NoMemory>
         ensures { self.new ≡ self.old }
     {

@@ -103,7 +103,7 @@ led_to v w way i j (Some a) is = ap (λ o. triple_of (after way (part_at v i)) o
 next_of-some : (v w : PlainView) (way : Way) (i j : ℕ) → Some j ≡ compared_match v w i → next_of v w way i ≡ triple_of (after way (part_at v i)) (to_of (part_at v i)) (to_of (part_at w j))
 next_of-some v w way i j is = next_of-pair v w way i (Some j) is ∙ led_to v w way i j (to_of (part_at v i)) refl
 
--- the same, as the code reads it
+-- the next triple, as the code reads it
 pub next_of-read : (v w : PlainView) (way : Way) (i j : ℕ) (p q : PlainPart) (o n : Option ℕ) (u : Way) → Some j ≡ compared_match v w i → p ≡ part_at v i → q ≡ part_at w j → o ≡ to_of p → n ≡ to_of q → u ≡ after way p → triple_of u o n ≡ next_of v w way i
 next_of-read v w way i j p q o n u is old new old_to new_to by =
     ap (λ x. triple_of x o n) (by ∙ ap (after way) old) ∙ ap (λ x. triple_of (after way (part_at v i)) x n) (old_to ∙ ap to_of old) ∙ ap (triple_of (after way (part_at v i)) (to_of (part_at v i))) (new_to ∙ ap to_of new)

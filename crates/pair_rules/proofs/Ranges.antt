@@ -22,7 +22,7 @@ filter-more_pushed h p n base list more so_far passes pushed =
     let step' = rw passes at step in
     rw (step', pushed, so_far) (append_assoc base (map h (filter p (range_with_len 0 n))) (h n ∷ []))
 
--- the same, where it does not pass
+-- where the number does not pass
 pub filter-more_kept : {X : Type 0} (h : ℕ → X) (p : ℕ → Bool) (n : ℕ) (base list : List X) → list ≡ base ++ map h (filter p (range_with_len 0 n)) → p n ≡ false → list ≡ base ++ map h (filter p (range_with_len 0 (n + 1)))
 filter-more_kept h p n base list so_far fails =
     let step = filter-more h p n in

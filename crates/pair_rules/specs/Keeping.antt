@@ -12,6 +12,6 @@ keeps_whole v w = list_all (λ rule. not (breaks_whole rule v w)) (rules_asked v
 unfoldable pub keeps_part : PlainView → PlainView → ℕ → Bool
 keeps_part v w i = list_all (λ rule. not (breaks_part rule v w i)) definition_rules
 
--- the same, at each part
+-- each part of the old type keeps its partner
 unfoldable pub keeps_parts : PlainView → PlainView → Bool
 keeps_parts v w = list_all (keeps_part v w) (range_with_len 0 (length v.parts))

@@ -12,7 +12,7 @@ use std::marker::Model;
 const PARTS_A_PART: usize = 16;
 
 // How many more may be compared, however few parts the types have.
-const PARTS_AT_LEAST: usize = 65_536;
+const PARTS_AT_LEAST: usize = 2_097_152;
 
 // How many letters of a name count as much as a part.
 const LETTERS_A_PART: usize = 64;
@@ -64,9 +64,9 @@ fn weight_in<Ix: Index>(graph: &Graph<Ix>) -> usize {
 }
 
 impl PartBudget {
-    /// The budget for the types of two graphs: 16 for each part of theirs and each 64 letters of its name, and 65,536 more.
+    /// The budget for the types of two graphs: 16 for each part of theirs and each 64 letters of its name, and 2,097,152 more.
     pub fn between(old: &Graph<OldIx>, new: &Graph<NewIx>) -> PartBudget
-        ensures { 65536 ≤ result }
+        ensures { 2097152 ≤ result }
     {
         let parts = weight_in(old).saturating_add(weight_in(new));
         PartBudget {

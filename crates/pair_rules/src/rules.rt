@@ -323,7 +323,7 @@ fn keeps_part(old: &View<OldIx>, new: &View<NewIx>, i: usize) -> bool
         .all(|rule| !breaks_part(*rule, old, new, i, found))
 }
 
-// The same, at each part.
+// Whether each part of the old type keeps its partner.
 #[tactic(auto, unfolding(crate::specs::Keeping::keeps_parts))]
 fn keeps_parts(old: &View<OldIx>, new: &View<NewIx>) -> bool
     ensures { result ≡ keeping.keeps_parts old.now new.now }

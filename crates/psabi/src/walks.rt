@@ -17,7 +17,7 @@ use std::marker::Model;
 const STEPS_A_NODE: u64 = 64;
 
 /// How many more steps they may take, however few nodes there are.
-const STEPS_AT_LEAST: u64 = 65_536;
+const STEPS_AT_LEAST: u64 = 16_777_216;
 
 /// The steps that walks need, and the steps that remain. Contracts see the number of the latter.
 #[derive(Drop)]
@@ -91,7 +91,7 @@ fn steps_of<Ix: Index>(graph: &Graph<Ix>, ix: Ix, steps: &mut [u64]) -> u64
 impl Walks {
     /// The walks over the objects of a graph, before the first one.
     pub fn over<Ix: Index>(alloc: Global, graph: &Graph<Ix>) -> Result<Walks, NoMemory>
-        ensures { IfOk result (λ walks. walks ≡ min (64 * length graph.now + 65536) (2 ^ 64 - 1)) }
+        ensures { IfOk result (λ walks. walks ≡ min (64 * length graph.now + 16777216) (2 ^ 64 - 1)) }
     {
         let steps = Vec::from_elem(alloc, 0, graph.len())?;
         let most = (graph.len() as u64).saturating_mul(STEPS_A_NODE);

@@ -25,7 +25,7 @@ concat-push (t ∷ texts) text = ap (λ (l : List ℕ). t ++ l) (concat-push tex
 pub heard_more : (rows : List Row) (index : ℕ) (row : Row) → index < length rows → row ≡ get_or rows index row → take (index + 1) rows ≡ take index rows ++ row ∷ []
 heard_more rows index row inside is = take_more rows index row inside ∙ ap (λ (r : Row). take index rows ++ r ∷ []) (sym is)
 
--- a listener of the style that has heard so many rows hears more
+-- a listener of the style that has heard this many rows hears more
 abbrev pub IsStillHearing : Style → ℕ → Type 0
 IsStillHearing (First n) heard = heard < max n 1
 IsStillHearing style heard = Unit {0}

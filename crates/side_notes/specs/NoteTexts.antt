@@ -72,10 +72,10 @@ note_text notes = flat_map (kind_text notes) all_kinds
 
 -- ---- one after another
 
--- the line of a note that is of a kind, with so many of that kind before it
+-- the line of a note that is of a kind, with this many of that kind before it
 abbrev pub line_if : NoteKind → ℕ → Note → List ℕ
 line_if kind so_far note = if is_of kind note && nat_lt so_far 10 then note_line note else []
 
--- so many and one more, where the note is of a kind and they are fewer than ten
+-- one more than before, where the note is of a kind and there are fewer than ten
 abbrev pub counted_to : NoteKind → ℕ → Note → ℕ
 counted_to kind so_far note = if is_of kind note && nat_lt so_far 10 then so_far + 1 else so_far

@@ -24,7 +24,7 @@ pub fn has_export(old: &Library<OldIx>, export: &Export) -> bool
 // The bytes of labels for each byte of the new file, and how many more there may be: the names of exports can share their bytes.
 const BYTES_A_BYTE: usize = 16;
 
-const BYTES_AT_LEAST: usize = 1_048_576;
+const BYTES_AT_LEAST: usize = 33_554_432;
 
 // What a note takes besides its label, in bytes.
 const NOTE: usize = 128;

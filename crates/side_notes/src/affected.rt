@@ -141,10 +141,10 @@ fn push_beside(
 // The bytes of notes for each byte of the file, and how many more there may be.
 const BYTES_A_BYTE: usize = 16;
 
-const BYTES_AT_LEAST: usize = 1_048_576;
+const BYTES_AT_LEAST: usize = 33_554_432;
 
 // How many bytes more count for the steps.
-const STEP_BYTES_AT_LEAST: usize = 65_536;
+const STEP_BYTES_AT_LEAST: usize = 262_144;
 
 // What a note takes besides its texts, in bytes.
 const NOTE: usize = 128;
@@ -181,7 +181,7 @@ impl NoteRoom {
         }
     }
 
-    // Takes so many bytes. Fails exactly where there are fewer, and names the limit.
+    // Takes this many bytes. Fails exactly where there are fewer, and names the limit.
     fn take(&mut self, bytes: usize) -> Result<(), NoMemory>
         ensures ok { OnOk result (self.old.bytes ≡ self.new.bytes + bytes) }
         ensures err { OnErr result (self.old.bytes < bytes) }

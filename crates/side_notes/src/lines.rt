@@ -176,7 +176,7 @@ fn push_first(text: &mut Vec<u8>, notes: &[Note], kind: NoteKind) -> Result<(), 
     Ok(())
 }
 
-// So many and one more, where a note is of a kind. Ten are as good as more.
+// One more than before, where a note is of a kind. Ten stand for any number.
 fn counted(so_far: usize, kind: NoteKind, note: &Note) -> usize
     requires { so_far ≤ 10 }
     ensures { result ≡ counted_to kind so_far note.now }

@@ -137,7 +137,7 @@ fn with_rules(
     })
 }
 
-// The same, by the bytes of a rule file.
+// By the bytes of a rule file.
 #[tactic(auto, using(crate::proofs::CountLemmas::when_readable, crate::proofs::CountLemmas::when_faulty))]
 fn with_both(
     alloc: Global,
@@ -224,7 +224,7 @@ fn own_counts_by_rules(
     Ok(Some(counts_between(alloc, library, &same, &marks)?))
 }
 
-// The same, by the bytes of a rule file.
+// By the bytes of a rule file.
 #[tactic(auto, using(crate::proofs::CountLemmas::when_readable, crate::proofs::CountLemmas::when_faulty))]
 fn own_counts(
     alloc: Global,

@@ -73,7 +73,7 @@ some_headed n (Other ∷ xs) known has = some_headed (n + 1) xs known has
 abbrev put : List PlainSection → List PlainProperty → List PlainSection
 put sections ps = with_properties sections (last_of sections) ps
 
--- the same, of the section at a place
+-- appends properties to the section at a place
 abbrev put_at : List PlainSection → ℕ → Option PlainSection → List PlainProperty → List PlainSection
 put_at sections i None ps = sections
 put_at sections i (Some section) ps = slice_set sections i (record section { properties = section.properties ++ ps })

@@ -1,6 +1,6 @@
 // The classes of characters in patterns, which take long to read.
 
-// In a pattern with flags, such as `(?i)`, a class counts as so many: those that ignore case take longest.
+// In a pattern with flags, such as `(?i)`, a class counts as several: those that ignore case take longest.
 const FLAGGED: usize = 8;
 
 // Whether these bytes begin flags of a group.

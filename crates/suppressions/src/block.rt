@@ -20,7 +20,7 @@ const BLOCK_WEIGHT: usize = 4096;
 // The maximum weight of all patterns of a rule file. Three hundred patterns of twenty bytes weigh a tenth of it.
 const MOST_WEIGHT: usize = 1 << 18;
 
-// The maximum of the letters of names, each counted with the weight of all patterns: so many for each name, and some more. Names of
+// The maximum of the letters of names, each counted with the weight of all patterns: a number for each name, and some more. Names of
 // 64 letters, to which the heaviest patterns are applied, take all of it.
 const READ_OF_A_NAME: usize = 1 << 24;
 

@@ -283,7 +283,7 @@ pub(crate) fn first_accesses(alloc: Global, task: &Task) -> Result<Vec<Access>, 
     Ok(list)
 }
 
-/// Whether all open accesses with at most so many steps land in agreement.
+/// Whether all open accesses with at most this many steps land in agreement.
 pub(crate) fn all_land(
     alloc: Global,
     task: &Task,

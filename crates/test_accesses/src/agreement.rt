@@ -65,7 +65,7 @@ fn params_stay(old: &Shape, new: &Shape) -> bool {
     place_at(old, 1) == place_at(new, 1) && place_at(old, 2) == place_at(new, 2)
 }
 
-// A value truncated to so many bytes.
+// A value truncated to this many bytes.
 fn in_bytes(size: u64, value: u64) -> u64 {
     match size {
         0 => 0,
@@ -93,7 +93,7 @@ fn enumerators_before(shape: &Shape, name: u8, position: usize) -> usize {
     count
 }
 
-// The enumerator with the name that has so many of that name before it.
+// The enumerator with the name that has this many of that name before it.
 fn enumerator_of(shape: &Shape, name: u8, number: usize) -> Option<Piece> {
     let mut count = 0usize;
     for item in &shape.pieces {

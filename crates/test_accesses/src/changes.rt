@@ -337,7 +337,7 @@ pub(crate) fn changed_types(
     Ok(types)
 }
 
-/// A random mark for each type of a graph, set in one of so many cases.
+/// A random mark for each type of a graph, set in one of this many cases.
 pub(crate) fn any_marks(
     alloc: Global,
     random: &mut Random,

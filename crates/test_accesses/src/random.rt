@@ -16,7 +16,7 @@ impl Random {
         (self.state >> 16).checked_rem(bound).unwrap_or(0)
     }
 
-    /// True in one of so many equally likely cases.
+    /// True in one of this many equally likely cases.
     pub(crate) fn one_in(&mut self, cases: u32) -> bool {
         self.below(cases) == 0
     }

@@ -119,7 +119,7 @@ pub(crate) fn pointer(to: usize) -> Shape {
     )
 }
 
-/// An array of so many elements. `whole` sets its size.
+/// An array of this many elements. `whole` sets its size.
 pub(crate) fn array(count: u64, to: usize) -> Shape {
     let mut array = shape_of(
         Kind::Array,

@@ -29,7 +29,7 @@ fn push_holders(list: &mut Vec<Shape>, number: usize) -> Result<(), NoMemory> {
     Ok(())
 }
 
-// All types of the set that may have this number in a graph of so many types.
+// All types of the set that may have this number in a graph of this many types.
 fn types_of(alloc: Global, number: usize, count: usize) -> Result<Vec<Shape>, NoMemory> {
     let mut list = Vec::new(alloc);
     list.push(scalar(4, Group::Signed))?;

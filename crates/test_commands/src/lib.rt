@@ -1,4 +1,4 @@
-//! Tests of the command line, of sentences for users and of trials, for what no contract states.
+//! Tests of the command line, of sentences for users and of generated libraries, for what no contract states.
 #![tactic(auto)]
 
 #[cfg(test)]
@@ -6,11 +6,11 @@ mod generated;
 #[cfg(test)]
 mod notes;
 #[cfg(test)]
+mod rows;
+#[cfg(test)]
 mod rule_lines;
 #[cfg(test)]
 mod sentences;
-#[cfg(test)]
-mod trials;
 #[cfg(test)]
 mod words;
 #[cfg(test)]

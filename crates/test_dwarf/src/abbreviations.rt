@@ -1,5 +1,5 @@
 // What no contract states: tables as bytes, worked by hand from the standard, and that a call returns them.
-use crate::rows::{byte, changed, cut, expect, number, refusal_text};
+use crate::rows::{cut, expect, number};
 use abi_base::{NoMemory, Refusal};
 use dwarf_forms::DebugAbbrevOffset;
 use dwarf_forms::abbreviations::{AbbreviationCode, Spec, Table, table};
@@ -103,54 +103,5 @@ fn a_constant_follows_its_form(rt: HostRuntime) -> Result<(), Fail> {
         implicit: -2,
     };
     assert_eq!(rt; made.specs.as_slice().first().copied(), Some(pair));
-    Ok(())
-}
-
-// The columns of a line: what is wrong | the position of a byte of `TABLE` | the hexadecimal byte that is to stand there | the offset
-// of the first abbreviation | the fault.
-const FAULTS: &str = "\
-a children byte that is neither 0 nor 1|2|02|0|Abbrev 0
-a code that an earlier abbreviation has|18|02|0|Abbrev 18
-only one 0 of a pair|13|00|7|Abbrev 7
-no end|29|80|0|Abbrev 29
-no abbreviations|29|00|30|Abbrev 30
-";
-
-// The fault of a table, or nothing if it has none.
-fn fault_of(alloc: Global, bytes: &[u8], at: u64) -> Result<String, NoMemory> {
-    match table(alloc, bytes, DebugAbbrevOffset::new(at)) {
-        Ok(_) => Ok(String::new(alloc)),
-        Err(refusal) => refusal_text(alloc, refusal),
-    }
-}
-
-// The fault of the table with a changed byte.
-fn changed_fault(alloc: Global, place: u64, with: u8, at: u64) -> Result<String, NoMemory> {
-    let bytes = changed(alloc, TABLE, place, with)?;
-    fault_of(alloc, bytes.as_slice(), at)
-}
-
-fn check_fault(rt: &impl Abort, alloc: Global, row: &str) -> Result<(), NoMemory> {
-    let (_, cells) = cut(row);
-    let (place, cells) = cut(cells);
-    let (with, cells) = cut(cells);
-    let (at, wanted) = cut(cells);
-    let told = changed_fault(alloc, number(place), byte(with), number(at))?;
-    expect(rt, told, wanted, row);
-    Ok(())
-}
-
-#[test]
-fn faults_are_at_their_abbreviation(rt: HostRuntime) -> Result<(), Fail> {
-    for row in FAULTS.lines() {
-        check_fault(&rt, rt.alloc(), row)?;
-    }
-    Ok(())
-}
-
-#[test]
-fn an_empty_section_has_no_abbreviations(rt: HostRuntime) -> Result<(), Fail> {
-    let told = fault_of(rt.alloc(), b"", 0)?;
-    expect(&rt, told, "Abbrev 0", "an empty section");
     Ok(())
 }

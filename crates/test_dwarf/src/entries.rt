@@ -1,8 +1,5 @@
-// What entries say, in hand-made units: names, origins, addresses and signatures.
-use crate::rows::{
-    byte, changed, cut, entry, expect, hexadecimal, index, number, numbers_text, refusal_text,
-    sections,
-};
+// What entries say, in hand-made units: names, origins and addresses.
+use crate::rows::{cut, entry, expect, index, numbers_text, sections};
 use abi_base::{NoMemory, Refusal};
 use dwarf_entries::*;
 use dwarf_forms::{DebugInfoOffset, Sections, Value};
@@ -12,22 +9,7 @@ use std::process::Abort;
 use std::str;
 use std::test::*;
 
-// The abbreviations of a unit, of a base type, of a function, of a type unit, and of a function whose type is a signature.
-const ABBREVS: &[u8] = b"\x01\x11\x01\x13\x05\x00\x00\x02\x24\x00\x0b\x0b\x3e\x0b\x03\x08\x00\x00\
-\x03\x2e\x00\x03\x08\x49\x13\x11\x01\x00\x00\x04\x41\x01\x00\x00\x05\x2e\x00\x03\x08\x49\x20\x11\x01\x00\x00\x00";
-
-// A function `f` that returns an `int`.
-const FUNCTION: &[u8] =
-    b"\x22\x00\x00\x00\x05\x00\x01\x08\x00\x00\x00\x00\x01\x0c\x00\x02\x04\x05int\x00\
-\x03f\x00\x0f\x00\x00\x00\x00\x10\x00\x00\x00\x00\x00\x00\x00";
-
-// A type unit of `int`, and a unit of a function that returns it.
-const TYPE_UNIT: &[u8] =
-    b"\x1d\x00\x00\x00\x05\x00\x02\x08\x00\x00\x00\x00\x11\x22\x33\x44\x55\x66\x77\x88\x19\x00\x00\x00\
-\x04\x02\x04\x05int\x00\x00\x1f\x00\x00\x00\x05\x00\x01\x08\x00\x00\x00\x00\x01\x0c\x00\
-\x05f\x00\x11\x22\x33\x44\x55\x66\x77\x88\x00\x10\x00\x00\x00\x00\x00\x00\x00";
-
-// The same as `FUNCTION`, with the names and the address given by indexes.
+// A function `f` that returns an `int`, with the names and the address given by indexes.
 const INDEXED: Sections<'static> = Sections {
     info: b"\x21\x00\x00\x00\x05\x00\x01\x08\x00\x00\x00\x00\x01\x00\x0c\x00\x08\x00\x00\x00\x08\x00\x00\x00\x00\
 \x02\x01\x04\x05\x03\x02\x19\x00\x00\x00\x00\x00",
@@ -55,96 +37,13 @@ const CHAIN: &[u8] =
 \x03\x12\x00\x00\x00\x0f\x00\x00\x00\x04c\x00\x07\x00\x00\x00\x03\x1e\x00\x00\x00\x0f\x00\x00\x00\
 \x05d\x00\x00\x10\x00\x00\x00\x00\x00\x00\x06\x2e\x00\x00\x00\x00";
 
-// A function at 15 whose origin it is itself.
-const CIRCLE: &[u8] =
-    b"\x11\x00\x00\x00\x05\x00\x01\x08\x00\x00\x00\x00\x01\x0c\x00\x06\x0f\x00\x00\x00\x00";
-
-// A structure at 15 with a signature that no unit has.
-const STRUCTURE: &[u8] =
-    b"\x15\x00\x00\x00\x05\x00\x01\x08\x00\x00\x00\x00\x01\x0c\x00\x07\x11\x22\x33\x44\x55\x66\x77\x88\x00";
-
-// A function at 15 whose name is outside its section.
-const NAMELESS: &[u8] =
-    b"\x11\x00\x00\x00\x05\x00\x01\x08\x00\x00\x00\x00\x01\x0c\x00\x08\x00\x00\x00\x00\x00";
-
-// A function at 15 whose ranges are outside their section.
-const RANGELESS: &[u8] =
-    b"\x11\x00\x00\x00\x05\x00\x01\x08\x00\x00\x00\x00\x01\x0c\x00\x09\x00\x00\x00\x00\x00";
-
-fn info_of(name: &str) -> &'static [u8] {
-    match name {
-        "function" => FUNCTION,
-        "type unit" => TYPE_UNIT,
-        "chain" => CHAIN,
-        "circle" => CIRCLE,
-        "structure" => STRUCTURE,
-        "nameless" => NAMELESS,
-        _ => RANGELESS,
-    }
-}
-
-fn abbrevs_of(name: &str) -> &'static [u8] {
-    match name {
-        "function" | "type unit" => ABBREVS,
-        _ => CHAIN_ABBREVS,
-    }
-}
-
 // The sections with a name.
 fn sections_of(name: &str) -> Sections<'static> {
     if name == "indexed" {
         INDEXED
     } else {
-        sections(abbrevs_of(name), info_of(name))
+        sections(CHAIN_ABBREVS, CHAIN)
     }
-}
-
-// The fault of the entries of these sections, or nothing if they have none.
-fn fault_of(alloc: Global, sections: Sections) -> Result<String, NoMemory> {
-    match tree(alloc, sections) {
-        Ok(_) => Ok(String::new(alloc)),
-        Err(refusal) => refusal_text(alloc, refusal),
-    }
-}
-
-// The columns of a line: a unit | the position of a byte in it | the hexadecimal byte that is to stand there | the fault. Worked by
-// hand from DWARF 5, sections 2.13, 3.1.4, 7.5.5 and 7.32.
-const CHANGES: &str = "\
-function|0|22|
-function|25|10|Reference 22
-type unit|51|11|
-type unit|51|12|Reference 48
-chain|0|3b|
-chain|22|11|Reference 21
-chain|26|10|Reference 21
-circle|16|0f|OriginTooDeep 15
-circle|16|0c|
-structure|15|07|Reference 15
-nameless|16|00|Text 15
-rangeless|16|00|Ranges 15
-";
-
-// The fault of a unit with a changed byte.
-fn changed_fault(alloc: Global, name: &str, at: u64, with: u8) -> Result<String, NoMemory> {
-    let info = changed(alloc, info_of(name), at, with)?;
-    fault_of(alloc, sections(abbrevs_of(name), info.as_slice()))
-}
-
-fn check_change(rt: &impl Abort, alloc: Global, row: &str) -> Result<(), NoMemory> {
-    let (name, cells) = cut(row);
-    let (at, cells) = cut(cells);
-    let (with, wanted) = cut(cells);
-    let told = changed_fault(alloc, name, number(at), byte(with))?;
-    expect(rt, told, wanted, row);
-    Ok(())
-}
-
-#[test]
-fn each_entry_has_its_fault(rt: HostRuntime) -> Result<(), Fail> {
-    for row in CHANGES.lines() {
-        check_change(&rt, rt.alloc(), row)?;
-    }
-    Ok(())
 }
 
 // The columns of a line: the sections | the number of an entry | the first name along its chain of origins, the number of the last
@@ -189,41 +88,6 @@ fn check_said(rt: &impl Abort, alloc: Global, row: &str) -> Result<(), Refusal> 
 fn each_entry_has_its_name_origin_and_address(rt: HostRuntime) -> Result<(), Fail> {
     for row in SAID.lines() {
         check_said(&rt, rt.alloc(), row)?;
-    }
-    Ok(())
-}
-
-// The columns of a line: the sections | a hexadecimal number | the entry with this address, and the type with this signature. Worked
-// by hand from DWARF 5, sections 2.17, 3.1.4 and 7.32.
-const NUMBERS: &str = "\
-indexed|1000|Some(2) None
-indexed|1001|None None
-chain|1000|Some(6) None
-type unit|1000|Some(3) None
-type unit|8877665544332211|None Some(1)
-";
-
-fn numbered(alloc: Global, sections: Sections, number: u64) -> Result<String, Refusal> {
-    let dwarf = tree(alloc, sections)?;
-    let (typed, signed) = (
-        index(dwarf.typed(number)),
-        index(dwarf.by_signature(number)),
-    );
-    Ok(format!(in alloc; "{typed:?} {signed:?}")?)
-}
-
-fn check_number(rt: &impl Abort, alloc: Global, row: &str) -> Result<(), Refusal> {
-    let (name, cells) = cut(row);
-    let (number, wanted) = cut(cells);
-    let told = numbered(alloc, sections_of(name), hexadecimal(number))?;
-    expect(rt, told, wanted, row);
-    Ok(())
-}
-
-#[test]
-fn entries_stand_for_addresses_and_signatures(rt: HostRuntime) -> Result<(), Fail> {
-    for row in NUMBERS.lines() {
-        check_number(&rt, rt.alloc(), row)?;
     }
     Ok(())
 }

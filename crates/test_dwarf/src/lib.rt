@@ -1,4 +1,5 @@
-//! Tests of the DWARF readers for what no contract states: worked values from outside, and each call once.
+//! Tests of the DWARF readers for what no contract states: worked values from outside, and each call once. `tests/made.sh` has the rows of
+//! faults, texts, addresses and lists of ranges.
 #![tactic(auto)]
 
 #[cfg(test)]
@@ -13,7 +14,5 @@ mod places;
 mod ranges;
 #[cfg(test)]
 mod rows;
-#[cfg(test)]
-mod texts;
 #[cfg(test)]
 mod trees;

@@ -1,15 +1,12 @@
-// Range lists, worked by hand from the standard, and the effort that they take.
-use crate::rows::{bytes_of, cut, expect, fault_text, number, within_limit};
+// The effort that range lists take, worked by hand from the standard.
+use crate::rows::{bytes_of, cut, number, within_limit};
 use abi_base::{Effort, Limit, NoMemory};
-use dwarf_forms::{DebugInfoOffset, Sections};
+use dwarf_forms::Sections;
 use dwarf_text::Bases;
 use dwarf_text::ranges::*;
 use std::alloc::Global;
 use std::process::Abort;
 use std::test::*;
-
-// The offset of the debugging information entry with the lists.
-const ENTRY: u64 = 50;
 
 const LOW: u64 = 0x2000;
 
@@ -20,13 +17,6 @@ const BASES: Bases = Bases {
     str_offsets: None,
     addr: Some(0),
     rnglists: Some(0),
-    low: LOW,
-};
-
-const NO_BASES: Bases = Bases {
-    str_offsets: None,
-    addr: None,
-    rnglists: None,
     low: LOW,
 };
 
@@ -45,33 +35,6 @@ fn sections(lists: &[u8]) -> Sections<'_> {
     }
 }
 
-// The columns of a line: the position of a list | the bytes of its section | the address at which its first range begins, or the
-// fault. Worked by hand from DWARF 5, section 7.25, and DWARF 4, section 2.17.3.
-const ROWS: &str = "\
-offset 0|07 00 10 00 00 00 00 00 00 10 00|Some(4096)
-offset 0|04 08 10 00|Some(8200)
-offset 0|04 08 08 00|Some(8200)
-offset 0|00|None
-offset 0|08|Ranges 50
-offset 0||Ranges 50
-offset 0|04 08|Ranges 50
-offset 0|02 00 01 00|Some(4096)
-offset 0|02 01 02 00|Index 50
-offset 0|03 02|Index 50
-offset 0|03 01|Ranges 50
-offset 0|01 01 04 08 09 00|Some(12296)
-offset 0|05 00 40 00 00 00 00 00 00 04 08 09 00|Some(16392)
-offset 0|05 ff ff ff ff ff ff ff ff 04 08 09 00|Some(7)
-offset 0|06 00 50 00 00 00 00 00 00 00 60 00 00 00 00 00 00 00|Some(20480)
-offset 1|08 04 08 09 00|Some(8200)
-index 1|08 00 00 00 09 00 00 00 00 04 08 09 00|Some(8200)
-index 1|08 00 00 00 09 00 00|Index 50
-index 0|05 00 00 00|Ranges 50
-pairs 0|ff ff ff ff ff ff ff ff 00 20 00 00 00 00 00 00 08 00 00 00 00 00 00 00 10 00 00 00 00 00 00 00|Some(8200)
-pairs 0|00 00 00 00 00 00 00 00 00 00 00 00 00 00 00|Ranges 50
-pairs 0|00 00 00 00 00 00 00 00 00 00 00 00 00 00 00 00|None
-";
-
 // The position of a list: the kind of its number, and the number.
 fn list_of(cell: &str) -> ListAt {
     let (kind, at) = cell.split_once(' ').unwrap_or((cell, ""));
@@ -81,42 +44,6 @@ fn list_of(cell: &str) -> ListAt {
         "index" => ListAt::Index(at),
         _ => ListAt::Pairs(at),
     }
-}
-
-// The address at which the first range of a list begins, or the fault.
-fn told(alloc: Global, list: ListAt, bases: &Bases, bytes: &[u8]) -> Result<String, NoMemory> {
-    match first_address(list, bases, &sections(bytes), DebugInfoOffset::new(ENTRY)) {
-        Ok(found) => Ok(format!(in alloc; "{found:?}")?),
-        Err(fault) => fault_text(alloc, fault),
-    }
-}
-
-fn told_of(alloc: Global, list: &str, bytes: &str) -> Result<String, NoMemory> {
-    let bytes = bytes_of(alloc, bytes)?;
-    told(alloc, list_of(list), &BASES, bytes.as_slice())
-}
-
-fn check_first(rt: &impl Abort, alloc: Global, row: &str) -> Result<(), NoMemory> {
-    let (list, cells) = cut(row);
-    let (bytes, wanted) = cut(cells);
-    let told = told_of(alloc, list, bytes)?;
-    expect(rt, told, wanted, row);
-    Ok(())
-}
-
-#[test]
-fn each_list_begins_where_its_first_range_does(rt: HostRuntime) -> Result<(), Fail> {
-    for row in ROWS.lines() {
-        check_first(&rt, rt.alloc(), row)?;
-    }
-    Ok(())
-}
-
-#[test]
-fn an_index_wants_a_base(rt: HostRuntime) -> Result<(), Fail> {
-    let told = told(rt.alloc(), ListAt::Index(0), &NO_BASES, &[4, 0, 0, 0, 0])?;
-    expect(&rt, told, "Index 50", "no bases");
-    Ok(())
 }
 
 // The effort for one byte.

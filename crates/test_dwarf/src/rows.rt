@@ -2,7 +2,7 @@
 ghost use Rattle.std.specs.Prelude.{◌≤◌, length};
 ghost use Rattle.abi_base.specs.Limits.{input_limit};
 
-use abi_base::{Fault, INPUT_LIMIT, NoMemory, Refusal};
+use abi_base::{Fault, INPUT_LIMIT, NoMemory};
 use dwarf_forms::Sections;
 use dwarf_tree::EntryNumber;
 use std::alloc::Global;
@@ -48,15 +48,6 @@ pub(crate) fn bytes_of(alloc: Global, text: &str) -> Result<Vec<u8>, NoMemory> {
     Ok(bytes)
 }
 
-/// The bytes, with another one at a position.
-pub(crate) fn changed(alloc: Global, bytes: &[u8], at: u64, byte: u8) -> Result<Vec<u8>, NoMemory> {
-    let mut changed = Vec::from_slice(alloc, bytes)?;
-    if let Some(place) = changed.get_mut(at as usize) {
-        *place = byte;
-    }
-    Ok(changed)
-}
-
 /// The bytes, or none if they exceed the limit of an input.
 pub(crate) fn within_limit(bytes: &[u8]) -> &[u8]
     ensures { length result.now ≤ input_limit }
@@ -94,14 +85,6 @@ pub(crate) fn index(e: Option<EntryNumber>) -> Option<usize> {
 pub(crate) fn fault_text(alloc: Global, fault: Fault) -> Result<String, NoMemory> {
     let (name, at) = (fault.kind.name(), fault.at);
     Ok(format!(in alloc; "{name} {at}")?)
-}
-
-/// The fault of an input that was refused.
-pub(crate) fn refusal_text(alloc: Global, refusal: Refusal) -> Result<String, NoMemory> {
-    match refusal {
-        Refusal::Fault(fault) => fault_text(alloc, fault),
-        Refusal::NoMemory(cause) => Err(cause),
-    }
 }
 
 /// The numbers of entries, each after a space.

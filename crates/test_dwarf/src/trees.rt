@@ -2,8 +2,7 @@
 ghost use Rattle.std.specs.Prelude.{◌<◌, length};
 
 use crate::rows::{
-    byte, bytes_of, changed, cut, entry, expect, hexadecimal, index, number, numbers_text,
-    refusal_text, sections,
+    bytes_of, cut, entry, expect, hexadecimal, index, number, numbers_text, sections,
 };
 use abi_base::{NoMemory, Refusal};
 use dwarf_forms::{DebugInfoOffset, Sections};
@@ -31,74 +30,6 @@ const MANY: usize = 400;
 
 // The number of attributes of each entry. If values were stored, these would take 24,000 slots.
 const ATTRIBUTES: usize = 60;
-
-// The first three children of an entry.
-fn children(tree: &Tree<'_>, e: EntryNumber) -> [Option<EntryNumber>; 3]
-    requires { e < length tree.now.entries }
-{
-    let first = tree.next_child(e, None);
-    let second = match first {
-        Some(child) => tree.next_child(e, Some(child)),
-        None => None,
-    };
-    let third = match second {
-        Some(child) => tree.next_child(e, Some(child)),
-        None => None,
-    };
-    [first, second, third]
-}
-
-// The columns of a line: the offset of an entry, its depth, its hexadecimal tag, its unit, and the numbers of its first three
-// children.
-const ENTRIES: &str = "\
-12 0 11 0 1 5
-14 1 13 0 2 4
-18 2 13 0 3
-22 3 d 0
-26 2 d 0
-30 1 24 0
-60 0 41 1 7
-61 1 24 1
-";
-
-fn push_children(text: &mut String, tree: &Tree, e: EntryNumber) -> Result<(), NoMemory>
-    requires { e < length tree.now.entries }
-{
-    for child in children(tree, e) {
-        if let Some(child) = child {
-            let number = child.index();
-            write!(text, " {number}")?;
-        }
-    }
-    Ok(())
-}
-
-fn push_entry(text: &mut String, tree: &Tree, e: EntryNumber) -> Result<(), NoMemory>
-    requires { e < length tree.now.entries }
-{
-    let (offset, depth) = (tree.offset(e).get(), tree.depth(e));
-    let (tag, unit) = (tree.tag(e), tree.unit(e));
-    write!(text, "{offset} {depth} {tag:x} {unit}")?;
-    push_children(text, tree, e)
-}
-
-fn entries_text(alloc: Global, tree: &Tree) -> Result<String, NoMemory> {
-    let mut text = String::new(alloc);
-    tree.known();
-    for number in 0..tree.len() {
-        push_entry(&mut text, tree, EntryNumber::new(number as u32))?;
-        text.push('\n')?;
-    }
-    Ok(text)
-}
-
-#[test]
-fn entries_of_all_units_are_one_list(rt: HostRuntime) -> Result<(), Fail> {
-    let tree = read_tree(rt.alloc(), &sections(ABBREVS, INFO))?;
-    let told = entries_text(rt.alloc(), &tree)?;
-    assert_eq!(rt; told.as_str(), ENTRIES);
-    Ok(())
-}
 
 // The columns of a line: an offset | the number of the entry at it, if there is one.
 const FOUND: &str = "\
@@ -299,43 +230,6 @@ fn check_many(rt: &impl Abort, alloc: Global, row: &str) -> Result<(), Refusal> 
 fn values_without_bytes_take_no_room(rt: HostRuntime) -> Result<(), Fail> {
     for row in MANY_VALUES.lines() {
         check_many(&rt, rt.alloc(), row)?;
-    }
-    Ok(())
-}
-
-// The columns of a line: the position of a byte of `INFO` | the hexadecimal byte that is to stand there | the fault.
-const FAULTS: &str = "\
-4|03|DwarfVersion 0
-14|09|AbbrevCode 14
-40|03|DwarfVersion 36
-60|01|Tree 60
-";
-
-// The fault of these units, or nothing if they have none.
-fn fault_of(alloc: Global, info: &[u8]) -> Result<String, NoMemory> {
-    match read_tree(alloc, &sections(ABBREVS, info)) {
-        Ok(_) => Ok(String::new(alloc)),
-        Err(refusal) => refusal_text(alloc, refusal),
-    }
-}
-
-fn changed_fault(alloc: Global, at: u64, with: u8) -> Result<String, NoMemory> {
-    let info = changed(alloc, INFO, at, with)?;
-    fault_of(alloc, info.as_slice())
-}
-
-fn check_fault(rt: &impl Abort, alloc: Global, row: &str) -> Result<(), NoMemory> {
-    let (at, cells) = cut(row);
-    let (with, wanted) = cut(cells);
-    let told = changed_fault(alloc, number(at), byte(with))?;
-    expect(rt, told, wanted, row);
-    Ok(())
-}
-
-#[test]
-fn the_first_fault_is_answered(rt: HostRuntime) -> Result<(), Fail> {
-    for row in FAULTS.lines() {
-        check_fault(&rt, rt.alloc(), row)?;
     }
     Ok(())
 }

@@ -1,3 +1,2 @@
-mod ExportLemmas
 mod OwnEntries
 mod ValidLemmas

@@ -53,8 +53,7 @@ fn is_enumerator<Ix: Index>(part: &Part<Ix>) -> bool
     }
 }
 
-/// Whether the part is a parameter.
-pub fn is_param<Ix: Index>(part: &Part<Ix>) -> bool
+fn is_param<Ix: Index>(part: &Part<Ix>) -> bool
     ensures { result ≡ spec.is_param (plain_part Ix.number_of part.now) }
 {
     match part {

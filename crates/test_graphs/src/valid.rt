@@ -1,19 +1,14 @@
-// Tests whether a list of nodes is a graph, and whether exports and a graph are those of a library.
-ghost use Rattle.std.specs.Prelude.{◌≡◌, ◌<◌, ◌≤◌, ◌↔◌, ℕ, length, map, count_by, All, IsSome, IsTrue, IfOk};
-ghost use Rattle.abi_base.specs.Limits.{depth_limit};
-ghost use Rattle.abi_types.specs.Exports.{PlainExport};
-ghost use Rattle.abi_types.specs.Forms as spec;
-ghost use Rattle.abi_types.specs.Graphs.{IsGraph, node_at, view_at, node_of};
-ghost use Rattle.abi_types.specs.Libraries.{AreNumbered, HasPlaces, IsLibrary};
+// Tests whether a list of nodes is a graph.
+ghost use Rattle.std.specs.Prelude.{◌≡◌, ◌<◌, ◌↔◌, ℕ, length, IsTrue, IfOk};
+ghost use Rattle.abi_types.specs.Graphs.{IsGraph, node_at};
 ghost use Rattle.abi_types.specs.Parts.{plain_part};
-ghost use Rattle.abi_types.specs.Plain.{plain_exports};
 ghost use Rattle.test_graphs.specs.Valid.{IsVoidFirst, NamesNode, NamesNodes, Keeps, KeepsNode};
 
 use crate::entries::have_own_entries;
-use crate::form::{has_form, is_param};
+use crate::form::has_form;
 use crate::limits::{is_whole, keeps_limits};
 use abi_base::NoMemory;
-use abi_types::{Export, Graph, Index, Kind, Node, Part, View};
+use abi_types::{Index, Kind, Node, Part, View};
 use std::alloc::Global;
 
 // The highest rank of a node.
@@ -122,80 +117,4 @@ pub fn is_graph<Ix: Index>(alloc: Global, nodes: &[Node<Ix>]) -> Result<bool, No
         return Ok(false);
     }
     have_own_entries(alloc, nodes)
-}
-
-// The number of parts that are parameters.
-fn count_params<Ix: Index>(parts: &[Part<Ix>]) -> usize
-    ensures { result ≡ count_by spec.is_param (map (plain_part Ix.number_of) parts.now) }
-{
-    parts.iter().filter(|part| is_param(part)).count()
-}
-
-// Whether the call of a function has a place for each of its parameters.
-fn has_places<Ix: Index>(view: &View<Ix>) -> bool
-    ensures { IsTrue result ↔ HasPlaces view.now }
-{
-    match view.kind {
-        Kind::Function => view.call.params().len() == count_params(view.parts.as_slice()),
-        _ => true,
-    }
-}
-
-// Whether the calls of all functions have their places.
-fn have_places<Ix: Index>(graph: &Graph<Ix>) -> bool
-    ensures { IsTrue result ↔ ((i : ℕ) → HasPlaces (view_at graph.now i)) }
-{
-    for i in 0..graph.len() {
-        if !has_places(graph.view(Ix::of(i))) {
-            return false;
-        }
-    }
-    true
-}
-
-// Whether each export's entry is that of a node.
-fn have_nodes<Ix: Index>(exports: &[Export], graph: &Graph<Ix>) -> bool
-    ensures { IsTrue result ↔ All (λ (e : PlainExport). IsSome (node_of graph.now e.entry)) (plain_exports exports.now) }
-{
-    for i in 0..exports.len() {
-        if graph.find(exports[i].entry).is_none() {
-            return false;
-        }
-    }
-    true
-}
-
-fn symbol_of(export: &Export) -> u32
-    ensures { result ≡ export.now.symbol }
-{
-    export.symbol
-}
-
-// Whether the exports are in order of their symbol numbers.
-fn are_numbered(exports: &[Export]) -> bool
-    ensures { IsTrue result ↔ AreNumbered (plain_exports exports.now) }
-{
-    // The least number that the next symbol may have.
-    let mut least: u64 = 0;
-    for i in 0..exports.len() {
-        let symbol = u64::from(symbol_of(&exports[i]));
-        if symbol < least {
-            return false;
-        }
-        least = symbol + 1;
-    }
-    true
-}
-
-/// Whether the exports and the graph are those of a library, so that `Library::new` accepts them.
-pub fn is_library<Ix: Index>(exports: &[Export], graph: &Graph<Ix>) -> bool
-    ensures { IsTrue result ↔ IsLibrary (plain_exports exports.now) graph.now }
-{
-    if !have_nodes(exports, graph) {
-        return false;
-    }
-    if !are_numbered(exports) {
-        return false;
-    }
-    have_places(graph)
 }

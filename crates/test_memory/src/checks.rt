@@ -1,4 +1,4 @@
-// The answers about generated libraries, which have so many functions with types.
+// The answers about generated libraries, which have this many functions with types.
 use crate::check_in_memory;
 use commands::{Outcome, Verdict};
 use std::test::Fail;

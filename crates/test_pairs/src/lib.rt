@@ -1,10 +1,8 @@
-//! Tests of the rules and of alike types for what no contract states: worked rows, and each call once.
+//! Tests of the rules for what no contract states: worked rows, and each call once. `tests/made.sh` has the rows of alike types.
 #![tactic(auto)]
 
 #[cfg(test)]
 mod checks;
-#[cfg(test)]
-mod classes;
 #[cfg(test)]
 mod spelled;
 #[cfg(test)]

@@ -1,36 +1,12 @@
 // The calls that read a file, on one image.
-use crate::fixture::cut;
+use crate::images::{COMMENTED, NO_EXPORTS, image};
+use crate::runs::parted;
 use elf::file::{ElfFile, read_elf};
 use elf::symbols::{Symbol, soname, symbols};
 use std::alloc::{AllocError, Global};
 use std::fmt::Write;
 use std::process::Abort;
 use std::test::Fail;
-use test_images::{Image, ImageSection, ImageSymbol};
-
-// Sections: 1 `.dynsym`, 2 `.dynstr`, 3 `.comment`, 4 `.dynamic`, 5 `.dynamic.str`, 6 `.comment`, 7 `.shstrtab`.
-fn library_with_comments(alloc: Global) -> Result<Vec<u8>, AllocError> {
-    let mut image = Image::new(alloc);
-    let object = ImageSymbol {
-        name: b"data",
-        info: 0xa1,
-        other: 3,
-        section: 0xfff1,
-        value: 0x0123_4567_89ab_cdef,
-        size: 8,
-    };
-    image.add_symbols(&[ImageSymbol::function(b"f"), object])?;
-    let first = Vec::from_slice(alloc, b"first")?;
-    let mut comment = ImageSection::new(alloc, ".comment", 1, first)?;
-    comment.link = 5;
-    comment.info = 9;
-    comment.entry_size = 3;
-    image.add_section(comment)?;
-    image.add_soname(b"libx.so.1")?;
-    let second = Vec::from_slice(alloc, b"second")?;
-    image.add_section(ImageSection::new(alloc, ".comment", 1, second)?)?;
-    image.bytes(alloc)
-}
 
 // Appends bytes as a text, with a slash in place of each 0 byte.
 fn push_bytes(text: &mut String, bytes: &[u8]) -> Result<(), AllocError> {
@@ -50,7 +26,8 @@ fn shown(alloc: Global, bytes: Option<&[u8]>) -> Result<String, AllocError> {
     Ok(text)
 }
 
-// The columns of a line: a section by its name, or a name by its offset | the bytes, or - if there are none.
+// Of the image `COMMENTED`. Its sections: 1 `.dynsym`, 2 `.dynstr`, 3 `.comment`, 4 `.dynamic`, 5 `.dynamic.str`, 6 `.comment`,
+// 7 `.shstrtab`. The columns of a line: a section by its name, or a name by its offset | the bytes, or - if there are none.
 const LOOKUPS: &str = "\
 section .comment|first
 section .dynstr|/f/data/
@@ -65,7 +42,7 @@ strings 8|-
 
 // The result of the call in a row, for a file.
 fn looked_up<'a>(file: &ElfFile<'a>, row: &str) -> Option<&'a [u8]> {
-    let (call, what) = cut(row, ' ');
+    let (call, what) = row.split_once(' ').unwrap_or((row, ""));
     match call {
         "section" => file.section(what.as_bytes()),
         "name" => file.section_name(what.parse().unwrap_or(0)),
@@ -74,7 +51,7 @@ fn looked_up<'a>(file: &ElfFile<'a>, row: &str) -> Option<&'a [u8]> {
 }
 
 fn is_found<R: Abort + AllocGlobal>(rt: &R, file: &ElfFile, row: &str) -> Result<(), Fail> {
-    let (asked, wanted) = cut(row, '|');
+    let (asked, wanted) = parted(row);
     let told = shown(rt.alloc(), looked_up(file, asked))?;
     assert_eq!(rt; told.as_str(), wanted, "{row}");
     Ok(())
@@ -82,7 +59,7 @@ fn is_found<R: Abort + AllocGlobal>(rt: &R, file: &ElfFile, row: &str) -> Result
 
 #[test]
 fn sections_are_found(rt: HostRuntime) -> Result<(), Fail> {
-    let bytes = library_with_comments(rt.alloc())?;
+    let bytes = image(rt.alloc(), COMMENTED)?;
     assert!(rt; bytes.len() < 4096);
     let file = read_elf(&bytes)?;
     for row in LOOKUPS.lines() {
@@ -104,7 +81,7 @@ fn first_of_kind(alloc: Global, file: &ElfFile, kind: u32) -> Result<String, All
 
 #[test]
 fn the_first_section_of_a_type_is_found(rt: HostRuntime) -> Result<(), Fail> {
-    let bytes = library_with_comments(rt.alloc())?;
+    let bytes = image(rt.alloc(), COMMENTED)?;
     assert!(rt; bytes.len() < 4096);
     let file = read_elf(&bytes)?;
     let found = first_of_kind(rt.alloc(), &file, 1)?;
@@ -142,7 +119,7 @@ fn symbols_of(alloc: Global, file: &ElfFile) -> Result<String, Fail> {
 
 #[test]
 fn symbols_are_read(rt: HostRuntime) -> Result<(), Fail> {
-    let bytes = library_with_comments(rt.alloc())?;
+    let bytes = image(rt.alloc(), COMMENTED)?;
     assert!(rt; bytes.len() < 4096);
     let file = read_elf(&bytes)?;
     let told = symbols_of(rt.alloc(), &file)?;
@@ -152,7 +129,7 @@ fn symbols_are_read(rt: HostRuntime) -> Result<(), Fail> {
 
 #[test]
 fn the_soname_is_read(rt: HostRuntime) -> Result<(), Fail> {
-    let bytes = library_with_comments(rt.alloc())?;
+    let bytes = image(rt.alloc(), COMMENTED)?;
     assert!(rt; bytes.len() < 4096);
     let file = read_elf(&bytes)?;
     assert_eq!(rt; soname(&file)?, Some(b"libx.so.1".as_slice()));
@@ -162,9 +139,7 @@ fn the_soname_is_read(rt: HostRuntime) -> Result<(), Fail> {
 #[test]
 fn a_library_may_have_no_soname(rt: HostRuntime) -> Result<(), Fail> {
     let alloc = rt.alloc();
-    let mut image = Image::new(alloc);
-    image.add_symbols(&[])?;
-    let bytes = image.bytes(alloc)?;
+    let bytes = image(alloc, NO_EXPORTS)?;
     assert!(rt; bytes.len() < 4096);
     let file = read_elf(&bytes)?;
     assert_eq!(rt; soname(&file)?, None);

@@ -1,124 +1,136 @@
-// The bytes of the images that `test_images` builds.
+// Images of libraries, as tests/images/dumps.py prints them.
 use std::alloc::{AllocError, Global};
-use std::process::Abort;
-use test_images::constants::{SHT_PROGBITS, VER_FLG_BASE, VERSYM_HIDDEN};
-use test_images::*;
 
-// Expects these bytes of a file from a position on.
-fn has<R: Abort>(rt: &R, file: &[u8], at: usize, wanted: &[u8]) {
-    let end = at.saturating_add(wanted.len());
-    assert_eq!(rt; file.get(at..end), Some(wanted), "at {at}");
-}
+pub(crate) const NO_EXPORTS: &str = "\
+header: 7f 'ELF 02 01 01 z9 03 00 3e 00 01 z19 80 z17 40 00 04 00 03 00
+.dynsym: z24
+.dynstr: z8
+.shstrtab: 00 '.dynsym 00 '.dynstr 00 '.shstrtab z6
+null-header: z64
+.dynsym-header: 01 z3 0b z19 40 z7 18 z7 02 z3 01 z3 08 z7 18 z7
+.dynstr-header: 09 z3 03 z19 58 z7 01 z15 08 z15
+.shstrtab-header: 11 z3 03 z19 60 z7 1b z15 08 z15
+";
 
-// A file with two exports and a soname: 72 bytes of symbols at 64, 5 of names at 136, 32 of the dynamic table at 144, 6 of the
-// soname's strings at 176, 49 of section names at 184, and six section headers at 240.
-#[test]
-fn lays_out_a_library(rt: HostRuntime) -> Result<(), AllocError> {
-    let file = library_with_soname(rt.alloc(), "a.so", &["f", "g"])?;
-    assert_eq!(rt; file.len(), 624);
+pub(crate) const TWO_VERSIONS: &str = "\
+header: 7f 'ELF 02 01 01 z9 03 00 3e 00 01 z19 30 01 z16 40 00 06 00 05 00
+.dynsym: z24 01 z3 12 00 01 00 00 10 z6 10 z7 03 z3 12 00 01 00 10 10 z6 10 z7
+.dynstr: 00 66 00 66 00 'a.so 00 'V1 00 'V2 00
+.gnu.version: 00 00 02 80 03 z3
+.gnu.version_d: 01 00 01 00 01 00 01 z5 14 z3 1c z3 05 z7 01 z3 02 00 01 z5 14 z3 1c z3 0a z7 01 z3 03 00 01 z5 14 z7 0d z11
+.shstrtab: 00 '.dynsym 00 '.dynstr 00 '.gnu.version 00 '.gnu.version_d 00 '.shstrtab 00 00
+null-header: z64
+.dynsym-header: 01 z3 0b z19 40 z7 48 z7 02 z3 01 z3 08 z7 18 z7
+.dynstr-header: 09 z3 03 z19 88 z7 10 z15 08 z15
+.gnu.version-header: 11 z3 ff ff ff 6f z16 98 z7 06 z7 01 z7 08 z7 02 z7
+.gnu.version_d-header: 1e z3 fd ff ff 6f z16 a0 z7 54 z7 02 z3 03 z3 08 z15
+.shstrtab-header: 2d z3 03 z19 f8 z7 37 z15 08 z15
+";
 
-    let header = [
-        0x7f, 0x45, 0x4c, 0x46, 2, 1, 1, 0, 0, 0, 0, 0, 0, 0, 0, 0, // the identification
-        3, 0, 62, 0, 1, 0, 0, 0, // type, machine, version
-        0, 0, 0, 0, 0, 0, 0, 0, 0, 0, 0, 0, 0, 0, 0, 0, // entry, program headers
-        240, 0, 0, 0, 0, 0, 0, 0, // section table
-        0, 0, 0, 0, 0, 0, 0, 0, 0, 0, // flags, sizes and number of program headers
-        64, 0, 6, 0, 5, 0, // section headers: their size, their number and the index of the section of names
-    ];
-    has(&rt, &file, 0, &header);
+pub(crate) const LIST_OF_INT: &str = "\
+header: 7f 'ELF 02 01 01 z9 03 00 3e 00 01 z19 c0 01 z16 40 00 06 00 05 00
+.dynsym: z24 01 z3 12 00 01 00 00 10 z6 10 z7
+.dynstr: 00 'len z4
+.debug_abbrev: 01 11 01 13 05 00 00 02 24 00 03 08 0b 07 3e 07 00 00 03 0f 00 49 10 00 00 04 13 01 03 08 0b 07 00 00 05 17 01 03
+08 0b 07 00 00 06 0d 00 03 08 49 10 38 07 00 00 07 0d 00 49 10 38 07 00 00 08 13 00 03 08 3c 19 00 00 09 01 01 49 10 00 00 0a 21
+00 37 07 00 00 0b 16 00 03 08 49 10 00 00 0c 16 00 03 08 49 10 88 01 07 00 00 0d 2e 01 03 08 11 01 49 10 00 00 0e 2e 01 03 08 11
+01 00 00 0f 05 00 49 10 00 00 10 2e 00 31 10 00 00 11 2e 00 11 01 31 10 z4
+.debug_info: 6d z3 05 00 01 08 z4 01 0c 00 02 'int 00 04 z7 05 z7 03 29 z3 04 'list 00 10 z7 06 'next 00 24 z11 06 76 00 0f z3 08
+z8 0d 'len 00 00 10 z6 0f z3 0f 24 z12
+.shstrtab: 00 '.dynsym 00 '.dynstr 00 '.debug_abbrev 00 '.debug_info 00 '.shstrtab z4
+null-header: z64
+.dynsym-header: 01 z3 0b z19 40 z7 30 z7 02 z3 01 z3 08 z7 18 z7
+.dynstr-header: 09 z3 03 z19 70 z7 05 z15 08 z15
+.debug_abbrev-header: 11 z3 01 z19 78 z7 97 z15 08 z15
+.debug_info-header: 1f z3 01 z19 10 01 z6 71 z15 08 z15
+.shstrtab-header: 2b z3 03 z19 88 01 z6 35 z15 08 z15
+";
 
-    let names = b"\0.dynsym\0.dynstr\0.dynamic\0.dynamic.str\0.shstrtab\0\0\0\0\0\0\0\0";
-    has(&rt, &file, 184, names);
+pub(crate) const LIST_OF_LONG: &str = "\
+header: 7f 'ELF 02 01 01 z9 03 00 3e 00 01 z19 d0 01 z16 40 00 06 00 05 00
+.dynsym: z24 01 z3 12 00 01 00 00 10 z6 10 z7
+.dynstr: 00 'len z4
+.debug_abbrev: 01 11 01 13 05 00 00 02 24 00 03 08 0b 07 3e 07 00 00 03 0f 00 49 10 00 00 04 13 01 03 08 0b 07 00 00 05 17 01 03
+08 0b 07 00 00 06 0d 00 03 08 49 10 38 07 00 00 07 0d 00 49 10 38 07 00 00 08 13 00 03 08 3c 19 00 00 09 01 01 49 10 00 00 0a 21
+00 37 07 00 00 0b 16 00 03 08 49 10 00 00 0c 16 00 03 08 49 10 88 01 07 00 00 0d 2e 01 03 08 11 01 49 10 00 00 0e 2e 01 03 08 11
+01 00 00 0f 05 00 49 10 00 00 10 2e 00 31 10 00 00 11 2e 00 11 01 31 10 z4
+.debug_info: 83 z3 05 00 01 08 z4 01 0c 00 02 'int 00 04 z7 05 z7 02 'long 00 08 z7 05 z7 03 3f z3 04 'list 00 10 z7 06 'next 00
+3a z11 06 76 00 24 z3 08 z8 0d 'len 00 00 10 z6 0f z3 0f 3a z6
+.shstrtab: 00 '.dynsym 00 '.dynstr 00 '.debug_abbrev 00 '.debug_info 00 '.shstrtab z4
+null-header: z64
+.dynsym-header: 01 z3 0b z19 40 z7 30 z7 02 z3 01 z3 08 z7 18 z7
+.dynstr-header: 09 z3 03 z19 70 z7 05 z15 08 z15
+.debug_abbrev-header: 11 z3 01 z19 78 z7 97 z15 08 z15
+.debug_info-header: 1f z3 01 z19 10 01 z6 87 z15 08 z15
+.shstrtab-header: 2b z3 03 z19 98 01 z6 35 z15 08 z15
+";
 
-    let dynamic = [
-        17, 0, 0, 0, 6, 0, 0, 0, // name and type
-        0, 0, 0, 0, 0, 0, 0, 0, 0, 0, 0, 0, 0, 0, 0, 0, // flags and address
-        144, 0, 0, 0, 0, 0, 0, 0, 32, 0, 0, 0, 0, 0, 0, 0, // offset and size
-        4, 0, 0, 0, 0, 0, 0, 0, // link and info
-        8, 0, 0, 0, 0, 0, 0, 0, 16, 0, 0, 0, 0, 0, 0, 0, // alignment and size of entries
-    ];
-    has(&rt, &file, 432, &dynamic);
+pub(crate) const VERSIONED_FUNCTION: &str = "\
+header: 7f 'ELF 02 01 01 z9 03 00 3e 00 01 z19 60 01 z16 40 00 08 00 05 00
+.dynsym: z24 01 z3 12 00 01 00 00 10 z6 10 z7
+.dynstr: 00 66 00 'a.so 00 'V1 z6
+.gnu.version: 00 00 02 z5
+.gnu.version_d: 01 00 01 00 01 00 01 z5 14 z3 1c z3 03 z7 01 z3 02 00 01 z5 14 z7 08 z7
+.shstrtab: 00 '.dynsym 00 '.dynstr 00 '.gnu.version 00 '.gnu.version_d 00 '.shstrtab 00 '.debug_abbrev 00 '.debug_info z8
+.debug_abbrev: 01 11 01 13 05 00 00 02 24 00 0b 0b 3e 0b 03 08 00 00 03 2e 00 03 08 49 13 11 01 z5
+.debug_info: 22 z3 05 00 01 08 z4 01 0c 00 02 04 05 'int 00 03 66 00 0f z4 10 z9
+null-header: z64
+.dynsym-header: 01 z3 0b z19 40 z7 30 z7 02 z3 01 z3 08 z7 18 z7
+.dynstr-header: 09 z3 03 z19 70 z7 0b z15 08 z15
+.gnu.version-header: 11 z3 ff ff ff 6f z16 80 z7 04 z7 01 z7 08 z7 02 z7
+.gnu.version_d-header: 1e z3 fd ff ff 6f z16 88 z7 38 z7 02 z3 02 z3 08 z15
+.shstrtab-header: 2d z3 03 z19 c0 z7 51 z15 08 z15
+.debug_abbrev-header: 37 z3 01 z19 18 01 z6 1e z15 08 z15
+.debug_info-header: 45 z3 01 z19 38 01 z6 26 z15 08 z15
+";
+
+pub(crate) const COMMENTED: &str = "\
+header: 7f 'ELF 02 01 01 z9 03 00 3e 00 01 z19 18 01 z16 40 00 08 00 07 00
+.dynsym: z24 01 z3 12 00 01 00 00 10 z6 10 z7 03 z3 a1 03 f1 ff ef cd ab 89 'gE 23 01 08 z7
+.dynstr: 00 66 00 'data 00
+.comment: 'first z3
+.dynamic: 0e z7 01 z23
+.dynamic.str: 00 'libx.so.1 z6
+.comment: 'second 00 00
+.shstrtab: 00 '.dynsym 00 '.dynstr 00 '.comment 00 '.dynamic 00 '.dynamic.str 00 '.comment 00 '.shstrtab z6
+null-header: z64
+.dynsym-header: 01 z3 0b z19 40 z7 48 z7 02 z3 01 z3 08 z7 18 z7
+.dynstr-header: 09 z3 03 z19 88 z7 08 z15 08 z15
+.comment-header: 11 z3 01 z19 90 z7 05 z7 05 z3 09 z3 08 z7 03 z7
+.dynamic-header: 1a z3 06 z19 98 z7 20 z7 05 z7 08 z7 10 z7
+.dynamic.str-header: 23 z3 03 z19 b8 z7 0b z15 08 z15
+.comment-header: 30 z3 01 z19 c8 z7 06 z15 08 z15
+.shstrtab-header: 39 z3 03 z19 d0 z7 43 z15 08 z15
+";
+
+fn push_zeros(bytes: &mut Vec<u8>, count: usize) -> Result<(), AllocError> {
+    for _ in 0..count {
+        bytes.push(0)?;
+    }
     Ok(())
 }
 
-// Four symbols of 24 bytes from 64 on, followed by their names.
-#[test]
-fn numbers_exports(rt: HostRuntime) -> Result<(), AllocError> {
-    let file = numbered_library(rt.alloc(), 3)?;
-    let last = [
-        7, 0, 0, 0, 0x12, 0, 1, 0, 0x20, 0x10, 0, 0, 0, 0, 0, 0, 16, 0, 0, 0, 0, 0, 0, 0,
-    ];
-    has(&rt, &file, 136, &last);
-    has(&rt, &file, 160, b"\0f0\0f1\0f2\0");
+// Appends the bytes of a word, none if it names the part that follows.
+fn push_word(bytes: &mut Vec<u8>, word: &str) -> Result<(), AllocError> {
+    if word.ends_with(':') {
+        return Ok(());
+    }
+    if let Some(text) = word.strip_prefix('\'') {
+        return bytes.extend_from_slice(text.as_bytes());
+    }
+    if let Some(count) = word.strip_prefix('z') {
+        return push_zeros(bytes, count.parse().unwrap_or(0));
+    }
+    bytes.push(u8::from_str_radix(word, 16).unwrap_or(0))?;
     Ok(())
 }
 
-fn section(alloc: Global, name: &str, bytes: &[u8]) -> Result<ImageSection, AllocError> {
-    ImageSection::new(alloc, name, SHT_PROGBITS, bytes.to_vec(alloc)?)
-}
-
-#[test]
-fn adds_sections(rt: HostRuntime) -> Result<(), AllocError> {
-    let alloc = rt.alloc();
-    let mut image = Image::new(alloc);
-    assert_eq!(rt; image.add_section(section(alloc, ".comment", b"text")?)?, 1);
-    image.add_symbols(&[ImageSymbol::function(b"f")])?;
-    image.add_soname(b"a.so")?;
-    let file = image.bytes(alloc)?;
-    has(&rt, &file, 64, b"text\0\0\0\0");
-    has(&rt, &library(alloc, &["f"])?, 112, b"\0f\0");
-    Ok(())
-}
-
-// The version indexes are at 120, after the symbols and their names, the definitions at 128, and their names at 184.
-#[test]
-fn adds_versions(rt: HostRuntime) -> Result<(), AllocError> {
-    let alloc = rt.alloc();
-    let mut image = Image::new(alloc);
-    image.add_symbols(&[ImageSymbol::function(b"f")])?;
-    image.add_version_indexes(&[0, VERSYM_HIDDEN | 2])?;
-    let base = ImageVersion {
-        index: 1,
-        flags: VER_FLG_BASE,
-        name: b"a.so",
-    };
-    let version = ImageVersion {
-        index: 2,
-        flags: 0,
-        name: b"V1",
-    };
-    image.add_versions(&[base, version])?;
-    let file = image.bytes(alloc)?;
-    let versions = [
-        0, 0, 2, 0x80, 0, 0, 0, 0, // the indexes
-        1, 0, 1, 0, 1, 0, 1, 0, 0, 0, 0, 0, 20, 0, 0, 0, 28, 0, 0, 0, // the first definition
-        1, 0, 0, 0, 0, 0, 0, 0, // its name
-        1, 0, 0, 0, 2, 0, 1, 0, 0, 0, 0, 0, 20, 0, 0, 0, 0, 0, 0, 0, // the second one
-        6, 0, 0, 0, 0, 0, 0, 0, // its name
-        0, b'a', b'.', b's', b'o', 0, b'V', b'1', 0, // the names
-    ];
-    has(&rt, &file, 120, &versions);
-    Ok(())
-}
-
-// The symbols are at 64, their names and those of the versions at 112, the version indexes at 120, the definition at 128, the
-// section names at 160 and the note at 224.
-#[test]
-fn puts_section_names_in_the_middle(rt: HostRuntime) -> Result<(), AllocError> {
-    let alloc = rt.alloc();
-    let mut image = Image::new(alloc);
-    let version = ImageVersion {
-        index: 2,
-        flags: 0,
-        name: b"V1",
-    };
-    image.add_versioned_symbols(&[ImageSymbol::function(b"f")], &[0, 2], &[version])?;
-    image.add_section_names()?;
-    assert_eq!(rt; image.add_section(section(alloc, ".note", b"x")?)?, 6);
-    let file = image.bytes(alloc)?;
-    has(&rt, &file, 58, &[64, 0, 7, 0, 5, 0]);
-    has(&rt, &file, 112, b"\0f\0V1\0");
-    let names = b"\0.dynsym\0.dynstr\0.gnu.version\0.gnu.version_d\0.shstrtab\0.note\0";
-    has(&rt, &file, 160, names);
-    Ok(())
+/// The bytes of an image that a text writes out. A word that ends with a colon names a part; two hexadecimal digits are a byte, `zN` is N
+/// zeros, and `'` begins a text.
+pub(crate) fn image(alloc: Global, text: &str) -> Result<Vec<u8>, AllocError> {
+    let mut bytes = Vec::new(alloc);
+    for word in text.split_whitespace() {
+        push_word(&mut bytes, word)?;
+    }
+    Ok(bytes)
 }

@@ -1,24 +1,19 @@
-//! Tests of the whole program with worked rows: pairs of small libraries with the status and the text of `check`, libraries with
-//! the output of `entries`, and the values of the reading calls on one image.
+//! Tests of what only a caller inside a program sees: the calls that read a file, inputs in memory that fail at a call, and listeners
+//! that are written outside. The answers of the whole program have their rows in tests/images. Only the inputs that are generated as
+//! they are read are not tests.
 #![tactic(auto)]
 
-#[cfg(test)]
-mod answers;
+mod made;
+
+pub use made::MadeInputs;
+
 #[cfg(test)]
 mod calls;
 #[cfg(test)]
-mod entries;
-#[cfg(test)]
-mod faults;
-#[cfg(test)]
-mod fixture;
+mod devices;
 #[cfg(test)]
 mod images;
 #[cfg(test)]
-mod sources;
+mod listeners;
 #[cfg(test)]
-mod typed;
-#[cfg(test)]
-mod verify;
-#[cfg(test)]
-mod versions;
+mod runs;

@@ -1,14 +1,15 @@
 // Listeners that are written outside the crate of reports: they hear their rows, and are closed and dropped, in order.
 ghost use Rattle.std.specs.Prelude.{◌≡◌, [], All, IfOk};
 
-use abi_base::{List, NoMemory};
-use abi_types::Rule;
+use abi_base::NoMemory;
+use abi_types::{Export, Rule, SymbolKind};
 use report::{
-    CountsListener, FirstListener, Listener, More, Row, Style, TableListener, TextListener, Value,
-    add_listener, tell_all,
+    CountsListener, FirstListener, Listener, More, Row, Style, TableListener, TextListener,
+    add_listener, export_row, tell_all,
 };
 use std::alloc::Global;
 use std::cell::RefCell;
+use std::process::Abort;
 use std::rc::Rc;
 use std::test::Fail;
 
@@ -30,7 +31,7 @@ impl Drop for Note {
     }
 }
 
-// Keeps so many rows, returns `NoMemory` for more, and closes with their number.
+// Keeps this many rows, returns `NoMemory` for more, and closes with their number.
 #[derive(Drop)]
 struct Counting {
     alloc: Global,
@@ -65,41 +66,39 @@ impl Listener for Counting {
     }
 }
 
-// A row with these texts.
-fn row(
-    alloc: Global,
-    rule: Rule,
-    export: &[u8],
-    path: &[u8],
-    detail: &[u8],
-) -> Result<Row, NoMemory> {
-    Ok(Row {
-        rule,
-        export: List::copy_of(alloc, export)?,
-        path: List::copy_of(alloc, path)?,
-        detail: List::copy_of(alloc, detail)?,
-        part: List::new(alloc),
-        was: Value::Nothing,
-        is: Value::Nothing,
-        old_entry: 0,
-        new_entry: 0,
-    })
+// An object with a version and a size.
+fn export<'a>(name: &'a [u8], size: u64) -> Export<'a> {
+    Export {
+        symbol: 1,
+        name,
+        version: Some(b"V1"),
+        index: 2,
+        hidden: true,
+        kind: SymbolKind::Object,
+        absolute: false,
+        value: 0x1000,
+        size,
+        declared: name,
+        entry: 0,
+    }
 }
 
-// The row about a member that grew.
-fn grown(alloc: Global) -> Result<Row, NoMemory> {
-    row(
+// The rows about an export that is gone, and about an object that grew.
+fn two_rows(alloc: Global) -> Result<Vec<Row>, NoMemory> {
+    let mut rows = Vec::new(alloc);
+    rows.push(export_row(
         alloc,
-        Rule::TypeSize,
-        b"len",
-        b"param 1 / target / member v",
-        b"size 4, now 8",
-    )
-}
-
-// The row about an export that is gone.
-fn gone(alloc: Global) -> Result<Row, NoMemory> {
-    row(alloc, Rule::ExportPresence, b"f@V1", b"", b"gone")
+        Rule::ExportPresence,
+        &export(b"f", 4),
+        &export(b"f", 4),
+    )?)?;
+    rows.push(export_row(
+        alloc,
+        Rule::ExportSize,
+        &export(b"len", 4),
+        &export(b"len", 8),
+    )?)?;
+    Ok(rows)
 }
 
 // A listener of each style in the library. None has heard anything yet.
@@ -121,7 +120,7 @@ fn of_each_style(alloc: Global) -> Result<Vec<Box<dyn Listener>>, NoMemory>
     Ok(listeners)
 }
 
-// A listener with this number that may keep so many rows, and has kept none yet.
+// A listener with this number that may keep this many rows, and has kept none yet.
 fn keeping(
     alloc: Global,
     number: u8,
@@ -142,56 +141,92 @@ fn keeping(
     })
 }
 
-#[test]
-fn each_style_has_its_text(rt: HostRuntime) -> Result<(), Fail> {
-    let alloc = rt.alloc();
-    let rows = vec![in alloc; gone(alloc)?, grown(alloc)?]?;
+// How telling listeners that have heard nothing ends, and a text with what they write after it.
+fn told(
+    alloc: Global,
+    listeners: Vec<Box<dyn Listener>>,
+    rows: &[Row],
+    before: &[u8],
+) -> Result<(Result<(), NoMemory>, Vec<u8>), NoMemory>
+    requires { All (λ listener. heard listener ≡ []) listeners.items }
+{
+    let mut out = Vec::from_slice(alloc, before)?;
+    let ended = tell_all(listeners, rows, &mut out);
+    Ok((ended, out))
+}
+
+// The text of a listener of each style, and of one of these tests.
+fn each_text(
+    alloc: Global,
+    rows: &[Row],
+    dropped: &Rc<RefCell<Vec<u8>>>,
+) -> Result<(Result<(), NoMemory>, Vec<u8>), Fail> {
     let mut listeners = of_each_style(alloc)?;
-    let dropped = Rc::new(alloc, RefCell::new(Vec::new(alloc)))?;
     add_listener(
         &mut listeners,
-        Box::new(alloc, keeping(alloc, 1, 2, &dropped)?)?,
+        Box::new(alloc, keeping(alloc, 1, 2, dropped)?)?,
     )?;
-    let mut out = Vec::new(alloc);
-    assert_eq!(rt; tell_all(listeners, &rows, &mut out), Ok(()));
+    Ok(told(alloc, listeners, rows, b"")?)
+}
+
+// The texts of three listeners, of which the second has room for one row.
+fn short_text(
+    alloc: Global,
+    rows: &[Row],
+    dropped: &Rc<RefCell<Vec<u8>>>,
+) -> Result<(Result<(), NoMemory>, Vec<u8>), Fail> {
+    let mut listeners: Vec<Box<dyn Listener>> = Vec::new(alloc);
+    add_listener(
+        &mut listeners,
+        Box::new(alloc, keeping(alloc, 1, 2, dropped)?)?,
+    )?;
+    add_listener(
+        &mut listeners,
+        Box::new(alloc, keeping(alloc, 2, 1, dropped)?)?,
+    )?;
+    add_listener(
+        &mut listeners,
+        Box::new(alloc, keeping(alloc, 3, 2, dropped)?)?,
+    )?;
+    Ok(told(alloc, listeners, rows, b"no\n")?)
+}
+
+fn check_each(rt: &impl Abort, alloc: Global, dropped: &Rc<RefCell<Vec<u8>>>) -> Result<(), Fail> {
+    let rows = two_rows(alloc)?;
+    let (ended, out) = each_text(alloc, &rows, dropped)?;
     let wanted = b"\
 X2 f@V1: gone
-L2 len param 1 / target / member v: size 4, now 8
+X5 len@V1: object size 4, now 8
 X2   f@V1                             -: gone
-L2   len                              param 1 / target / member v: size 4, now 8
+X5   len@V1                           -: object size 4, now 8
 X2         1
-L2         1
+X5         1
 all        2
 X2 f@V1: gone
 2";
+    assert_eq!(rt; ended, Ok(()));
     assert_eq!(rt; out.as_slice(), wanted.as_slice());
     Ok(())
 }
 
+fn check_short(rt: &impl Abort, alloc: Global, dropped: &Rc<RefCell<Vec<u8>>>) -> Result<(), Fail> {
+    let rows = two_rows(alloc)?;
+    let (ended, out) = short_text(alloc, &rows, dropped)?;
+    assert_eq!(rt; ended, Err(NoMemory::Allocation));
+    assert_eq!(rt; out.as_slice(), b"no\n2".as_slice());
+    Ok(())
+}
+
+#[test]
+fn each_style_has_its_text(rt: HostRuntime) -> Result<(), Fail> {
+    let dropped = Rc::new(rt.alloc(), RefCell::new(Vec::new(rt.alloc())))?;
+    check_each(&rt, rt.alloc(), &dropped)
+}
+
 #[test]
 fn the_texts_before_it_stay_where_memory_runs_out(rt: HostRuntime) -> Result<(), Fail> {
-    let alloc = rt.alloc();
-    let rows = vec![in alloc; gone(alloc)?, grown(alloc)?]?;
-    let dropped = Rc::new(alloc, RefCell::new(Vec::new(alloc)))?;
-    let mut listeners: Vec<Box<dyn Listener>> = Vec::new(alloc);
-    add_listener(
-        &mut listeners,
-        Box::new(alloc, keeping(alloc, 1, 2, &dropped)?)?,
-    )?;
-    add_listener(
-        &mut listeners,
-        Box::new(alloc, keeping(alloc, 2, 1, &dropped)?)?,
-    )?;
-    add_listener(
-        &mut listeners,
-        Box::new(alloc, keeping(alloc, 3, 2, &dropped)?)?,
-    )?;
-    let mut out = b"no\n".to_vec(alloc)?;
-    assert_eq!(rt;
-        tell_all(listeners, &rows, &mut out),
-        Err(NoMemory::Allocation)
-    );
-    assert_eq!(rt; out.as_slice(), b"no\n2".as_slice());
+    let dropped = Rc::new(rt.alloc(), RefCell::new(Vec::new(rt.alloc())))?;
+    check_short(&rt, rt.alloc(), &dropped)?;
     let numbers = dropped.try_borrow()?;
     assert_eq!(rt; numbers.as_slice(), [1, 2, 3].as_slice());
     Ok(())

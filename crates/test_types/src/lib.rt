@@ -1,12 +1,7 @@
-//! Tests of graphs, their readers and layouts for what no contract states: worked values from outside, and each call once.
+//! Tests of graphs and their readers for what no contract states: worked values from outside, and each call once. `tests/made.sh` has
+//! the rows of libraries, calls and layouts.
 #![tactic(auto)]
 
-#[cfg(test)]
-mod calls;
-#[cfg(test)]
-mod hand_made;
-#[cfg(test)]
-mod layouts;
 #[cfg(test)]
 mod parts;
 #[cfg(test)]
@@ -15,5 +10,3 @@ mod reached;
 mod rows;
 #[cfg(test)]
 mod sections;
-#[cfg(test)]
-mod views;

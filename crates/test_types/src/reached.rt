@@ -1,9 +1,9 @@
-// The entries that types reach, and the facts about them.
+// The facts about types.
 ghost use Rattle.std.specs.Prelude.{◌<◌, length};
 
 use crate::rows::expect;
 use crate::sections::dwarf;
-use abi_base::{FaultKind, NoMemory, Refusal};
+use abi_base::{NoMemory, Refusal};
 use dwarf_entries::Dwarf;
 use dwarf_forms::DebugInfoOffset;
 use dwarf_tree::EntryNumber;
@@ -12,24 +12,9 @@ use std::process::Abort;
 use std::test::*;
 use type_reach::*;
 
-// The abbreviations of a unit, of a base type, of a function, and of a typedef.
-const ABBREVS: &[u8] = b"\x01\x11\x01\x13\x05\x00\x00\x02\x24\x00\x0b\x0b\x3e\x0b\x03\x08\x00\x00\
-\x03\x2e\x00\x03\x08\x49\x13\x11\x01\x00\x00\x04\x16\x00\x03\x08\x49\x13\x00\x00\x00";
-
-// A function at 22 that returns the `int` at 15.
-const FUNCTION: &[u8] =
-    b"\x22\x00\x00\x00\x05\x00\x01\x08\x00\x00\x00\x00\x01\x0c\x00\x02\x04\x05int\x00\
-\x03f\x00\x0f\x00\x00\x00\x00\x10\x00\x00\x00\x00\x00\x00\x00";
-
-// The same, with a typedef of itself at 15.
-const CIRCLE: &[u8] =
-    b"\x22\x00\x00\x00\x05\x00\x01\x08\x00\x00\x00\x00\x01\x0c\x00\x04t\x00\x0f\x00\x00\x00\
-\x03f\x00\x0f\x00\x00\x00\x00\x10\x00\x00\x00\x00\x00\x00\x00";
-
 // The abbreviations of a unit, of a base type, of a structure, of a bit field by bit_offset, of a declared structure, of an
 // array, of a dimension by its count, of one by its upper bound, and of a typedef.
-const MORE_ABBREVS: &[u8] =
-    b"\x01\x11\x01\x13\x05\x00\x00\x02\x24\x00\x0b\x0b\x3e\x0b\x03\x08\x00\x00\
+const ABBREVS: &[u8] = b"\x01\x11\x01\x13\x05\x00\x00\x02\x24\x00\x0b\x0b\x3e\x0b\x03\x08\x00\x00\
 \x03\x13\x01\x0b\x0b\x00\x00\x04\x0d\x00\x03\x08\x49\x13\x0d\x0b\x0c\x0b\x38\x0b\x00\x00\x05\x13\x00\x3c\x19\x00\x00\
 \x06\x01\x01\x49\x13\x00\x00\x07\x21\x00\x37\x07\x00\x00\x08\x21\x00\x2f\x0d\x00\x00\x09\x16\x00\x03\x08\x49\x13\x00\x00\x00";
 
@@ -40,26 +25,6 @@ const TYPES: &[u8] =
 \x03\x04\x04a\x00\x0f\x00\x00\x00\x03\x1d\x00\x04b\x00\x0f\x00\x00\x00\x05\x18\x00\x00\
 \x05\x06\x2d\x00\x00\x00\x07\x00\x00\x00\x00\x01\x00\x00\x00\x07\x00\x00\x00\x00\x01\x00\x00\x00\x00\
 \x06\x0f\x00\x00\x00\x08\x03\x00\x09t\x00\x46\x00\x00\x00\x00";
-
-// The entries reached from the entry at an offset, in order of offset.
-fn listed(alloc: Global, dwarf: &Dwarf, offset: u64) -> Result<ReachedEntries, NoMemory> {
-    match dwarf.find(DebugInfoOffset::new(offset)) {
-        Some(root) => reached(alloc, dwarf, &[root]),
-        None => reached(alloc, dwarf, &[]),
-    }
-}
-
-// The offsets of the entries that were found.
-fn offsets(alloc: Global, dwarf: &Dwarf, found: &ReachedEntries) -> Result<Vec<u64>, NoMemory> {
-    let mut offsets = Vec::new(alloc);
-    for number in 0..found.len() {
-        let e = found.at(number);
-        if e.index() < dwarf.len() {
-            offsets.push(dwarf.offset(e).get())?;
-        }
-    }
-    Ok(offsets)
-}
 
 // The facts of an entry.
 fn facts_of(alloc: Global, dwarf: &Dwarf, e: EntryNumber) -> Result<Option<Facts>, Refusal>
@@ -72,40 +37,6 @@ fn facts_of(alloc: Global, dwarf: &Dwarf, e: EntryNumber) -> Result<Option<Facts
         Some(number) => Ok(all.get(number).copied()),
         None => Ok(None),
     }
-}
-
-fn offsets_from(alloc: Global, dwarf: &Dwarf, offset: u64) -> Result<Vec<u64>, NoMemory> {
-    let found = listed(alloc, dwarf, offset)?;
-    offsets(alloc, dwarf, &found)
-}
-
-fn check_offsets(rt: &impl Abort, alloc: Global, dwarf: &Dwarf) -> Result<(), NoMemory> {
-    let offsets = offsets_from(alloc, dwarf, 22)?;
-    assert_eq!(rt; offsets.as_slice(), [15, 22].as_slice());
-    Ok(())
-}
-
-#[test]
-fn a_function_leads_to_its_type(rt: HostRuntime) -> Result<(), Fail> {
-    let dwarf = dwarf(rt.alloc(), ABBREVS, FUNCTION)?;
-    check_offsets(&rt, rt.alloc(), &dwarf)?;
-    Ok(())
-}
-
-// The number and the position of a fault, or zeros if there is none.
-fn fault_of(judged: Result<String, Refusal>) -> (u64, u64) {
-    match judged {
-        Err(Refusal::Fault(fault)) => (fault.kind.number(), fault.at),
-        _ => (0, 0),
-    }
-}
-
-#[test]
-fn a_typedef_of_itself_is_too_deep(rt: HostRuntime) -> Result<(), Fail> {
-    let dwarf = dwarf(rt.alloc(), ABBREVS, CIRCLE)?;
-    let fault = fault_of(told_at(rt.alloc(), &dwarf, 22));
-    assert_eq!(rt; fault, (FaultKind::TooDeep.number(), 15));
-    Ok(())
 }
 
 // The columns of a line: the offset of a type | its size, its count, its weight and its rank.
@@ -151,7 +82,7 @@ fn check_facts(rt: &impl Abort, alloc: Global, dwarf: &Dwarf, row: &str) -> Resu
 
 #[test]
 fn facts_of_types(rt: HostRuntime) -> Result<(), Fail> {
-    let dwarf = dwarf(rt.alloc(), MORE_ABBREVS, TYPES)?;
+    let dwarf = dwarf(rt.alloc(), ABBREVS, TYPES)?;
     for row in FACTS.lines() {
         check_facts(&rt, rt.alloc(), &dwarf, row)?;
     }
@@ -184,7 +115,7 @@ fn check_span(rt: &impl Abort, alloc: Global, dwarf: &Dwarf) -> Result<(), Refus
 
 #[test]
 fn a_structure_has_the_span_of_its_bit_fields(rt: HostRuntime) -> Result<(), Fail> {
-    let dwarf = dwarf(rt.alloc(), MORE_ABBREVS, TYPES)?;
+    let dwarf = dwarf(rt.alloc(), ABBREVS, TYPES)?;
     check_span(&rt, rt.alloc(), &dwarf)?;
     Ok(())
 }

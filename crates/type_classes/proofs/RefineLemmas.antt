@@ -75,7 +75,7 @@ AreOfClass-from nodes edges members pairs class c graph incoming of_class joined
       contains-beside pairs k x ((joined (k, x)).1 (s, (of_class s).1 (s_in, s_of), (incoming.edges s k x).1 (x_in, names))));
 }
 
--- the same, by a slice of the pairs
+-- by a slice of the pairs
 pub AreOfClass-sliced : (nodes : List PlainNode) (edges : Incoming) (members : List ℕ) (pairs sliced : List (ℕ × ℕ)) (class : ℕ → ℕ) (c n : ℕ) → IsGraph nodes → AreIncoming nodes (length nodes) edges
     → sliced ≡ pairs → n ≡ length nodes → ((s : ℕ) → Contains members s ↔ ((s < n) × (class s ≡ c)))
     → ((e : ℕ × ℕ) → Contains pairs e ↔ ((s : ℕ) × Contains members s × IsIncoming edges s e)) → AreOfClass nodes class c sliced

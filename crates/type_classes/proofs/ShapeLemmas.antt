@@ -20,11 +20,11 @@ pub list_all : {X : Type 0} (f : X → List ℕ) (base cur : List ℕ) (n i : �
 unfolding spelled_list
 list_all f base cur n i xs past is so_far = so_far ∙ ap (λ (k : ℕ). base ++ k ∷ flat_map f (take i xs)) is ∙ ap (λ ys. base ++ length xs ∷ flat_map f ys) (take_all i xs past)
 
--- the same, where the item is read with a default
+-- with an item that is read with a default
 pub list_more_at : {X : Type 0} (f : X → List ℕ) (base cur next : List ℕ) (n i : ℕ) (xs : List X) (d : X) → i < length xs → cur ≡ base ++ n ∷ flat_map f (take i xs) → next ≡ cur ++ f (get_or xs i d) → next ≡ base ++ n ∷ flat_map f (take (i + 1) xs)
 list_more_at f base cur next n i xs d inside so_far push = list_more f base cur next n i xs (get_or xs i d) inside (get_or_default xs i (get_or xs i d) d inside) so_far push
 
--- the same, where what is spelled is seen through a function
+-- with items that are seen through a function
 pub list_more_map : {X Y : Type 0} (g : X → Y) (f : Y → List ℕ) (base cur next : List ℕ) (n i : ℕ) (xs : List X) (x : X) → i < length xs → x ≡ get_or xs i x → cur ≡ base ++ n ∷ flat_map f (take i (map g xs)) → next ≡ cur ++ f (g x) → next ≡ base ++ n ∷ flat_map f (take (i + 1) (map g xs))
 list_more_map g f base cur next n i xs x inside read so_far push =
     list_more f base cur next n i (map g xs) (g x) (rw (length-map xs g) inside) (get_or-map g xs i x (g x) inside ∙ ap g (sym read)) so_far push
@@ -44,7 +44,7 @@ letters_more g f base cur next i xs x inside read so_far push =
     let e : take (i + 1) (map g xs) ≡ take i (map g xs) ++ g x ∷ [] = take_more (map g xs) i (g x) inside' ∙ ap (λ y. take i (map g xs) ++ y ∷ []) at in
     push ∙ ap (λ (ns : List ℕ). ns ++ f (g x)) so_far ∙ flat_map_more f base (take i (map g xs)) (g x) ∙ ap (λ ys. base ++ flat_map f ys) (sym e)
 
--- the same, where the item is read with a default
+-- with an item that is read with a default
 pub letters_more_at : {X Y : Type 0} (g : X → Y) (f : Y → List ℕ) (base cur next : List ℕ) (i : ℕ) (xs : List X) (d : X) → i < length xs → cur ≡ base ++ flat_map f (take i (map g xs)) → next ≡ cur ++ f (g (get_or xs i d)) → next ≡ base ++ flat_map f (take (i + 1) (map g xs))
 letters_more_at g f base cur next i xs d inside so_far push = letters_more g f base cur next i xs (get_or xs i d) inside (get_or_default xs i d (get_or xs i d) inside) so_far push
 

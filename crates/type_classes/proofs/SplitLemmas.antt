@@ -33,7 +33,7 @@ beside_skipped pairs from (suc more) key x inside others =
     ∙ no_key (key_at pairs (from + more)) 0 key (number_at pairs (from + more)) x (stands_beside (take (from + more) pairs) key x) (others (from + more) (omega arith) (omega arith))
     ∙ beside_skipped pairs from more key x (omega arith) (λ i low high. others i low (omega arith))
 
--- the same, up to a position
+-- up to a position
 beside_until : (pairs : List (ℕ × ℕ)) (from next key x : ℕ) → from ≤ next → next ≤ length pairs → ((i : ℕ) → from ≤ i → i < next → key_at pairs i ≡ key → ⊥) → stands_beside (take next pairs) key x ≡ stands_beside (take from pairs) key x
 beside_until pairs from next key x le inside others =
     let e : next ≡ from + (next - from) = omega arith in

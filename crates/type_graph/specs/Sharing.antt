@@ -28,7 +28,7 @@ first_nodes d found = map (first_node d found) (found_types found)
 abbrev pub with_parts : PlainNode → List PlainPart → PlainNode
 with_parts n parts = record n { view = record n.view { parts = parts } }
 
--- the nodes of void and of so many entries are whole, and the others await the parts of other entries
+-- the nodes of void and of this many entries are whole, and the others await the parts of other entries
 pub record AreShared (d : PlainDwarf) (found : List ℕ) (count : ℕ) (nodes : List PlainNode) : Type 0 where
   pub many : length nodes ≡ suc (length found)
   pub void : node_at nodes 0 ≡ made_node d found None

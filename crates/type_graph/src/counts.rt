@@ -44,7 +44,7 @@ impl Room {
         }
     }
 
-    // What is left of the room, less so many parts, which this limit counts.
+    // What is left of the room, less this many parts, which this limit counts.
     fn without_parts(self, limit: Limit, many: usize) -> Result<Room, NoMemory>
         ensures parts { IfOk result (λ rest. rest.parts + many ≡ self.parts) }
         ensures letters { IfOk result (λ rest. rest.letters ≡ self.letters) }
@@ -55,7 +55,7 @@ impl Room {
         })
     }
 
-    // What is left of the room, less so many letters.
+    // What is left of the room, less this many letters.
     fn without_letters(self, many: usize) -> Result<Room, NoMemory>
         ensures parts { IfOk result (λ rest. rest.parts ≡ self.parts) }
         ensures letters { IfOk result (λ rest. rest.letters + many ≡ self.letters) }

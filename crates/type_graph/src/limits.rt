@@ -25,15 +25,15 @@ const BYTES_A_TYPE: usize = 16;
 const BYTES_A_PART: usize = 8;
 
 // How many types and parts more there may be, however small the file is.
-const TYPES_AT_LEAST: usize = 16_384;
+const TYPES_AT_LEAST: usize = 131_072;
 
-const PARTS_AT_LEAST: usize = 16_384;
+const PARTS_AT_LEAST: usize = 524_288;
 
 // How many letters the names of types and parts may have, for each byte of a file.
 const LETTERS_A_BYTE: usize = 32;
 
 // How many more they may have, however small the file is.
-const LETTERS_AT_LEAST: usize = 1_048_576;
+const LETTERS_AT_LEAST: usize = 33_554_432;
 
 /// How many types a library may reach, how many parts these may have in all, and how many letters their names. A type or a part may
 /// take one byte of the file, and takes hundreds of bytes of memory; compilers write some hundred bytes for each. Names may share
@@ -50,11 +50,11 @@ pub struct GraphLimits {
 }
 
 impl GraphLimits {
-    /// The limits for a file with so many bytes.
+    /// The limits for a file with this many bytes.
     pub fn for_file(bytes: usize) -> GraphLimits
-        ensures types { result.types ≡ bytes / 16 + 16384 }
-        ensures parts { result.parts ≡ bytes / 8 + 16384 }
-        ensures letters { result.letters ≡ min (32 * bytes + 1048576) (2 ^ 64 - 1) }
+        ensures types { result.types ≡ bytes / 16 + 131072 }
+        ensures parts { result.parts ≡ bytes / 8 + 524288 }
+        ensures letters { result.letters ≡ min (32 * bytes + 33554432) (2 ^ 64 - 1) }
     {
         GraphLimits {
             types: bytes / BYTES_A_TYPE + TYPES_AT_LEAST,
@@ -71,4 +71,4 @@ pub(crate) const LABELS_A_TYPE: usize = 16;
 
 /// How many more they may have, however few types there are. A chain of 512 typedefs, the longest that there may be, has 131,328
 /// names.
-pub(crate) const LABELS_AT_LEAST: usize = 262_144;
+pub(crate) const LABELS_AT_LEAST: usize = 1_048_576;

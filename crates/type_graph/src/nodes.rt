@@ -65,7 +65,7 @@ fn node<'a, Ix: Index>(
     })
 }
 
-// How many labels so many types may have in all.
+// How many labels this many types may have in all.
 fn most_labels(types: usize) -> usize {
     types
         .saturating_mul(LABELS_A_TYPE)
@@ -73,7 +73,7 @@ fn most_labels(types: usize) -> usize {
 }
 
 // The nodes of void and of all that was found. A node whose core is another entry has no parts yet. It fails where their tags and
-// names have more letters than so many.
+// names have more letters than this many.
 fn first_nodes<'a, Ix: Index>(
     alloc: Global,
     types: &JudgedTypes<'_, 'a>,

@@ -13,7 +13,7 @@ abbrev pub led_on : Role → ℕ → Type_ → Type_
 led_on role.Wrapper e further = further
 led_on _ e further = Some e
 
--- The type at the end of the chain, which is void or an entry of another role, within so many entries. No library that can be read
+-- The type at the end of the chain, which is void or an entry of another role, within this many entries. No library that can be read
 -- has a longer chain.
 unfoldable pub behind : PlainTree → ℕ → Type_ → Type_
 behind t zero r = None
@@ -30,7 +30,7 @@ leads_further role.Wrapper = true
 leads_further role.Array = true
 leads_further _ = false
 
--- within so many entries, the chain has an entry with this tag, also behind the elements of an array
+-- within this many entries, the chain has an entry with this tag, also behind the elements of an array
 unfoldable pub is_passed : PlainTree → ℕ → ℕ → Type_ → Bool
 is_passed t tag zero r = false
 is_passed t tag (suc n) None = false

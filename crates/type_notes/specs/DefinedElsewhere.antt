@@ -104,10 +104,17 @@ part_changes_from d e ms ns places = first_of (map (part_change d e ms ns) place
 abbrev pub first_part_change : PlainDwarf → PlainDwarf → List ℕ → List ℕ → Option Difference
 first_part_change d e ms ns = part_changes_from d e ms ns (range_with_len 0 (max (length ms) (length ns)))
 
+-- the sizes of two definitions, if they differ
+abbrev pub size_change : PlainDwarf → PlainDwarf → ℕ → ℕ → Option Difference
+size_change d e a b = differing note.DefinedElsewhere (size_text d.tree a) (size_text e.tree b)
+
+-- the first members or enumerators of two definitions that differ
+abbrev pub parts_change : PlainDwarf → PlainDwarf → ℕ → ℕ → Option Difference
+parts_change d e a b = first_part_change d e (parts_of d.tree a) (parts_of e.tree b)
+
 -- the sizes of two definitions, if they differ, or else the first members or enumerators that differ
 unfoldable pub definition_change : PlainDwarf → PlainDwarf → ℕ → ℕ → Option Difference
-definition_change d e a b =
-    option_or (differing note.DefinedElsewhere (size_text d.tree a) (size_text e.tree b)) (first_part_change d e (parts_of d.tree a) (parts_of e.tree b))
+definition_change d e a b = option_or (size_change d e a b) (parts_change d e a b)
 
 -- ---- all definitions of a tag and a name
 

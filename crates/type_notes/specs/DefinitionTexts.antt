@@ -68,7 +68,7 @@ goes_on role.Pointer = true
 goes_on role.Array = true
 goes_on _ = false
 
--- A type, within so many entries of its chain; the text of a longer chain is cut off.
+-- A type, within this many entries of its chain; the text of a longer chain is cut off.
 unfoldable pub type_text : PlainDwarf → ℕ → Type_ → List ℕ
 type_text d zero r = []
 type_text d (suc n) None = codes "void"

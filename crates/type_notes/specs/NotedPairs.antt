@@ -41,7 +41,7 @@ noted_pair p = record { sides = sides_of p.pair; old_dwarf = p.old_dwarf.now; ne
 abbrev pub difference_note : List ℕ → List ℕ → Difference → Note
 difference_note export path d = record { kind = d.kind; export = export; path = path; was = d.was; is = d.is }
 
--- the same, with the path to visit number n
+-- a difference as a note, with the path to visit number n
 abbrev pub noted_at : Sides → List Visit → ℕ → Difference → Note
 noted_at s visits n d = difference_note (label_at s.old (export_of (path_at visits n))) (steps_text s.old (path_at visits n)) d
 
@@ -56,10 +56,14 @@ old_core p v = core_at p.old_dwarf.tree (node_at p.sides.old.graph v.old).entry
 abbrev pub new_core : PlainPair → Visit → Type_
 new_core p v = core_at p.new_dwarf.tree (node_at p.sides.new.graph v.new).entry
 
+-- the definitions behind the types of a visit, if at least one of them is only declared
+abbrev pub defined_behind : PlainPair → Visit → Option (ℕ × ℕ)
+defined_behind p v = definitions_behind p.old_dwarf p.new_dwarf (old_core p v) (new_core p v)
+
 -- the definitions that are compared at a visit, if at least one of its types is only declared
 unfoldable pub definitions_at : PlainPair → Visit → Option (ℕ × ℕ)
 definitions_at p v =
-    if is_marked (task_of p.sides) v.old v.way then None else definitions_behind p.old_dwarf p.new_dwarf (old_core p v) (new_core p v)
+    if is_marked (task_of p.sides) v.old v.way then None else defined_behind p v
 
 abbrev pub is_of : ℕ → Option (ℕ × ℕ) → Bool
 is_of a None = false
@@ -73,7 +77,7 @@ was_compared p visits n a = list_any (λ v. is_of a (definitions_at p v)) (take 
 abbrev pub change_behind : PlainPair → ℕ → ℕ → Option Difference
 change_behind p a b = kin_change p.old_dwarf p.new_dwarf (kin_of p.old_dwarf a) (kin_of p.new_dwarf b)
 
--- the same, unless the old definition is in a set
+-- the change of a definition, unless the old one is in a set
 abbrev pub change_unless : (ℕ → Bool) → PlainPair → Option (ℕ × ℕ) → List Difference
 change_unless among p None = []
 change_unless among p (Some (a, b)) = if among a then [] else option_to_list (change_behind p a b)

@@ -69,6 +69,26 @@ fn first_part_change(
     Ok(None)
 }
 
+// The difference between the sizes of two definitions.
+fn size_change(alloc: Global, pair: &EntryPair) -> Result<Option<Difference>, NoMemory>
+    requires { AreThere (plain pair.now) }
+    ensures { IfOk result (λ found. found ≡ spec.size_change pair.now.old_dwarf.now pair.now.new_dwarf.now pair.now.old pair.now.new) }
+{
+    let was = size_text(alloc, pair.old_dwarf, pair.old)?;
+    let is = size_text(alloc, pair.new_dwarf, pair.new)?;
+    Ok(differing(NoteKind::DefinedElsewhere, was, is))
+}
+
+// The difference between the first members or enumerators of two definitions that differ.
+fn parts_change(alloc: Global, pair: &EntryPair) -> Result<Option<Difference>, NoMemory>
+    requires { AreThere (plain pair.now) }
+    ensures { IfOk result (λ found. found ≡ spec.parts_change pair.now.old_dwarf.now pair.now.new_dwarf.now pair.now.old pair.now.new) }
+{
+    let old = parts_of(alloc, pair.old_dwarf, pair.old)?;
+    let new = parts_of(alloc, pair.new_dwarf, pair.new)?;
+    first_part_change(alloc, pair, old.as_slice(), new.as_slice())
+}
+
 /// The difference between two definitions: that of their sizes, or else of the first members or enumerators that differ.
 #[tactic(auto, unfolding(crate::specs::DefinedElsewhere::definition_change))]
 pub(crate) fn definition_change(
@@ -78,15 +98,10 @@ pub(crate) fn definition_change(
     requires { AreThere (plain pair.now) }
     ensures { IfOk result (λ found. found ≡ spec.definition_change pair.now.old_dwarf.now pair.now.new_dwarf.now pair.now.old pair.now.new) }
 {
-    let was = size_text(alloc, pair.old_dwarf, pair.old)?;
-    let is = size_text(alloc, pair.new_dwarf, pair.new)?;
-    let found = differing(NoteKind::DefinedElsewhere, was, is);
-    if found.is_some() {
-        return Ok(found);
+    match size_change(alloc, pair)? {
+        Some(found) => Ok(Some(found)),
+        None => parts_change(alloc, pair),
     }
-    let old = parts_of(alloc, pair.old_dwarf, pair.old)?;
-    let new = parts_of(alloc, pair.new_dwarf, pair.new)?;
-    first_part_change(alloc, pair, old.as_slice(), new.as_slice())
 }
 
 // The texts of definitions.
@@ -159,6 +174,23 @@ fn change_at(
     }
 }
 
+// The difference between all old definitions of a tag and a name and all new ones, by their texts.
+fn change_by(
+    alloc: Global,
+    kin: &Kin,
+    old: &[List<u8>],
+    new: &[List<u8>],
+) -> Result<Option<Difference>, NoMemory>
+    requires { AreKin kin.now }
+    ensures { IfOk result (λ found. found ≡ spec.change_from kin.now.old_dwarf.now kin.now.new_dwarf.now kin.now.old.now kin.now.new.now (spec.first_lacking old.now new.now) (spec.first_lacking new.now old.now)) }
+{
+    let Some(place) = first_lacking(alloc, old, new)? else {
+        return Ok(None);
+    };
+    let other = first_lacking(alloc, new, old)?;
+    change_at(alloc, kin, place, other.unwrap_or(0))
+}
+
 /// The difference between all old definitions of a tag and a name and all new ones: the first old one whose text no new one has,
 /// beside the first new one whose text no old one has, or beside the first new one.
 #[tactic(auto, unfolding(crate::specs::DefinedElsewhere::kin_change))]
@@ -168,11 +200,7 @@ pub(crate) fn kin_change(alloc: Global, kin: &Kin) -> Result<Option<Difference>,
 {
     let old = texts_of(alloc, kin.old_dwarf, kin.old)?;
     let new = texts_of(alloc, kin.new_dwarf, kin.new)?;
-    let Some(place) = first_lacking(alloc, old.as_slice(), new.as_slice())? else {
-        return Ok(None);
-    };
-    let other = first_lacking(alloc, new.as_slice(), old.as_slice())?;
-    change_at(alloc, kin, place, other.unwrap_or(0))
+    change_by(alloc, kin, old.as_slice(), new.as_slice())
 }
 
 /// The definitions of the types of two entries, if at least one of the entries is a declaration.

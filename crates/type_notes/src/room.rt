@@ -22,11 +22,11 @@ use pair_explorer::Visit;
 use std::alloc::Global;
 use type_reach::{body_of, type_of};
 
-// The limit in bytes of names and texts: so many for each byte of both files, plus a constant. The notes on two builds of one source
+// The limit in bytes of names and texts: a number for each byte of both files, plus a constant. The notes on two builds of one source
 // take less than one byte for each byte of the files.
 const BYTES_A_BYTE: usize = 16;
 
-const BYTES_AT_LEAST: usize = 1_048_576;
+const BYTES_AT_LEAST: usize = 33_554_432;
 
 // What a part, a name or a step of a chain takes besides its letters.
 const PART: usize = 32;
@@ -59,7 +59,7 @@ impl NoteRoom {
         }
     }
 
-    // Takes so many bytes. It fails where fewer are left, and names the limit.
+    // Takes this many bytes. It fails where fewer are left, and names the limit.
     fn take(&mut self, bytes: usize) -> Result<(), NoMemory>
         ensures { IfErr result (λ e. e ≡ Past Notes) }
     {

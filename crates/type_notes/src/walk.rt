@@ -8,7 +8,7 @@ ghost use Rattle.pair_rules.specs.Steps as steps_spec;
 ghost use Rattle.cert_check.specs.Compatible.{task_of};
 ghost use Rattle.type_notes.specs.DefinedElsewhere.{AreOfBoth, definitions_behind};
 ghost use Rattle.type_notes.specs.TypePairs.{ArePacked};
-ghost use Rattle.type_notes.specs.NotedPairs.{AreCompared, AreNotes, AreReadable, IsReadable, change_behind, change_unless, difference_note, differences_of, is_of, new_core, noted_at, noted_pair, notes_at, notes_below, old_core};
+ghost use Rattle.type_notes.specs.NotedPairs.{AreAlone, AreCompared, AreNotes, AreReadable, IsReadable, change_behind, change_unless, defined_behind, difference_note, differences_of, is_of, new_core, noted_at, noted_pair, notes_at, notes_below, old_core};
 
 use crate::between::{DwarfPair, push_differences};
 use crate::chain::core_at;
@@ -22,7 +22,7 @@ use crate::packing::packed_nodes;
 use crate::room::NoteRoom;
 use crate::type_pair::{Packed, TypePair};
 use abi_base::{List, NoMemory};
-use abi_types::{Index, OldIx, Way};
+use abi_types::{Index, NewIx, OldIx, Way};
 use dwarf_forms::DebugInfoOffset;
 use dwarf_tree::EntryNumber;
 use pair_compare::explore_types;
@@ -35,7 +35,7 @@ use std::alloc::Global;
 use std::collections::HashSet;
 use std::marker::Brand;
 use std::sync::ledger::{Blank, Ledger};
-use type_classes::plain;
+use type_classes::{Classes, plain};
 
 // Whether an old node is marked at a way.
 fn is_marked(ground: &NotedPair, node: OldIx, way: Way) -> bool
@@ -223,6 +223,26 @@ fn push_definitions(
     push_found(list, change_of(walk, found, room)?)
 }
 
+// The differences at a visit: those of its types, and that of the definitions behind them, unless the old one was compared before.
+fn found_at(
+    compared: &mut HashSet<usize>,
+    walk: &Walk,
+    visit: &Visit,
+    room: &mut NoteRoom,
+) -> Result<List<Difference>, NoMemory>
+    requires definitions { AreOfBoth walk.now.ground.now.old_dwarf.now walk.now.ground.now.new_dwarf.now walk.now.definitions.now }
+    requires packed { ArePacked walk.now.ground.now.pair.old.now.graph walk.now.ground.now.pair.new.now.graph walk.now.packed }
+    requires old { visit.now.old < length walk.now.ground.now.pair.old.now.graph }
+    requires new { visit.now.new < length walk.now.ground.now.pair.new.now.graph }
+    ensures found { IfOk result (λ found. found ≡ differences_of (noted_pair walk.now.ground.now) visit.now ++ change_unless (contains nat_eq compared.old) (noted_pair walk.now.ground.now) (defined_behind (noted_pair walk.now.ground.now) visit.now)) }
+    ensures compared { OnOk result ((a : ℕ) → contains nat_eq compared.new a ≡ (contains nat_eq compared.old a || is_of a (defined_behind (noted_pair walk.now.ground.now) visit.now))) }
+{
+    let mut found = differences_at(room.alloc, walk.ground, &walk.packed, visit)?;
+    let defined = definitions_of_types(walk.ground, walk.definitions, visit);
+    push_definitions(&mut found, compared, walk, defined, room)?;
+    Ok(found)
+}
+
 // Adds the notes of a visit.
 #[tactic(auto, unfolding(crate::specs::NotedPairs::notes_at, crate::specs::NotedPairs::definitions_at))]
 fn push_visit(
@@ -245,9 +265,7 @@ fn push_visit(
         return Ok(());
     }
     room.take_visit(walk.ground, &visit)?;
-    let mut found = differences_at(room.alloc, walk.ground, &walk.packed, &visit)?;
-    let defined = definitions_of_types(walk.ground, walk.definitions, &visit);
-    push_definitions(&mut found, compared, walk, defined, room)?;
+    let found = found_at(compared, walk, &visit, room)?;
     if found.as_slice().is_empty() {
         return Ok(());
     }
@@ -275,6 +293,32 @@ fn notes_along(walk: &Walk, room: &mut NoteRoom) -> Result<List<Note>, NoMemory>
     Ok(notes)
 }
 
+// The notes of all visits, in order, by the definitions of both libraries; it first collects the packed nodes.
+fn notes_with_packed<'w, 'x, 'o, 'n, 'd, 'e>(
+    ground: &'w NotedPair<'x, 'o, 'n, 'd, 'e>,
+    definitions: &'w DefinitionPair<'w, 'd, 'e>,
+    visits: &'w Visits,
+    room: &mut NoteRoom,
+) -> Result<List<Note>, NoMemory>
+    requires definitions { AreOfBoth ground.now.old_dwarf.now ground.now.new_dwarf.now definitions.now }
+    requires readable { AreReadable (sides_of ground.now.pair) visits.now }
+    ensures { IfOk result (λ notes. notes ≡ notes_below (noted_pair ground.now) visits.now (length visits.now)) }
+{
+    let old_packed = packed_nodes(room.alloc, ground.pair.old.graph())?;
+    let new_packed = packed_nodes(room.alloc, ground.pair.new.graph())?;
+    let packed = Packed {
+        old: old_packed.as_slice(),
+        new: new_packed.as_slice(),
+    };
+    let walk = Walk {
+        ground,
+        definitions,
+        packed,
+        visits,
+    };
+    notes_along(&walk, room)
+}
+
 // The notes of all visits, in order; it first collects the definitions and the packed nodes of both libraries.
 fn notes_with_definitions(
     alloc: Global,
@@ -291,19 +335,35 @@ fn notes_with_definitions(
         old: &old,
         new: &new,
     };
-    let old_packed = packed_nodes(alloc, ground.pair.old.graph())?;
-    let new_packed = packed_nodes(alloc, ground.pair.new.graph())?;
-    let packed = Packed {
-        old: old_packed.as_slice(),
-        new: new_packed.as_slice(),
-    };
-    let walk = Walk {
-        ground,
-        definitions: &definitions,
-        packed,
-        visits,
-    };
-    notes_along(&walk, &mut room)
+    notes_with_packed(ground, &definitions, visits, &mut room)
+}
+
+// The notes on two libraries, by classes in which each type stands for itself.
+fn notes_of_classes<L: Ledger>(
+    alloc: Global,
+    ground: &NotedPair,
+    old_classes: &Classes<OldIx>,
+    new_classes: &Classes<NewIx>,
+    steps: &mut Steps<L>,
+) -> Result<List<Note>, NoMemory>
+    requires bound { IsBinding ground.now.pair }
+    requires marks { AreMarksOf ground.now.pair.old.now ground.now.pair.marks.now }
+    requires old_nodes { old_classes.now.nodes ≡ ground.now.pair.old.now.graph }
+    requires new_nodes { new_classes.now.nodes ≡ ground.now.pair.new.now.graph }
+    requires old_alone { AreAlone old_classes.now }
+    requires new_alone { AreAlone new_classes.now }
+    ensures { IfOk result (AreNotes (noted_pair ground.now)) }
+{
+    paths_end_where_they_lead();
+    paths_by_representatives();
+    parents_spell_paths();
+    let old_graph = ground.pair.old.graph();
+    let new_graph = ground.pair.new.graph();
+    old_graph.known();
+    new_graph.known();
+    let explored = explore_types(alloc, &ground.pair, old_classes, new_classes, steps)?;
+    let notes = notes_with_definitions(alloc, ground, &explored.visits)?;
+    Ok(notes)
 }
 
 // The notes on two libraries, with a counter of steps.
@@ -319,19 +379,12 @@ fn counted_notes<L: Ledger>(
     requires marks { AreMarksOf ground.now.pair.old.now ground.now.pair.marks.now }
     ensures { IfOk result (AreNotes (noted_pair ground.now)) }
 {
-    paths_end_where_they_lead();
-    paths_by_representatives();
-    parents_spell_paths();
     let old_graph = ground.pair.old.graph();
     let new_graph = ground.pair.new.graph();
-    old_graph.known();
-    new_graph.known();
-    let mut steps = Steps::<L>::new(blank);
     let old_classes = plain(alloc, old_graph)?;
     let new_classes = plain(alloc, new_graph)?;
-    let explored = explore_types(alloc, &ground.pair, &old_classes, &new_classes, &mut steps)?;
-    let notes = notes_with_definitions(alloc, ground, &explored.visits)?;
-    Ok(notes)
+    let mut steps = Steps::<L>::new(blank);
+    notes_of_classes(alloc, ground, &old_classes, &new_classes, &mut steps)
 }
 
 /// The notes on the types of two libraries: each difference between two compared types that no rule judges, with the first path to

@@ -74,7 +74,7 @@ run_below members (suc x) free = elim (held_or_not members x) [
       }
 ]
 
--- the free bits from one on, up to a held one, or to so many
+-- the free bits from one on, up to a held one, or to this many
 record RunAbove (members : List Extent) (x d : ℕ) : Type 0 where
   pub end : ℕ
   pub past : x < end

@@ -38,7 +38,7 @@ by_offset-is t roots found inside walk = filter_agree (was_found found) (is_reac
       (λ there. (is_reached-is t roots inside e).1 ((walk.exact e).0 (Contains-from_any eqb-true e found there)))
       (λ reached. any_there (nat_eq e) found e ((walk.exact e).1 ((is_reached-is t roots inside e).0 reached)) (eq-eqb e e refl))
 
--- the test of depth says that a chain of so many steps leads on
+-- the test of depth says that a chain of this many steps leads on
 pub steps_on-is : (t : PlainTree) (n : ℕ) (r : Type_) → (steps_on t n r ≡ true) ↔ StepsOn t n r
 unfolding steps_on
 steps_on-is t zero r = (λ h. StepsOn-none t r, λ h. refl)

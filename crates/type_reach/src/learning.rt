@@ -105,7 +105,7 @@ pub fn in_order(alloc: Global, found: &ReachedEntries) -> Result<Vec<EntryNumber
     'found: for number in 0..found.len() {
         order.push(found.at(number))?;
     }
-    order.sort_unstable();
+    found.in_order();
     Ok(order)
 }
 

@@ -1,6 +1,7 @@
 // Found entries, numbered by offset.
 ghost use Rattle.std.specs.Prelude.{◌≡◌, ◌<◌, ◌^◌, length, nat_eq, position, slice_get, Contains, Some, IfOk, IfSome, IfNone};
 ghost use Rattle.std.specs.List.{IsDistinct};
+ghost use Rattle.std.specs.List.Sorted.{IsNonDecreasing};
 ghost use Rattle.type_reach.specs.VisitedEntries.{marked_places};
 
 use crate::searches::{BETWEEN_HINTS, hint_for, place_near};
@@ -100,6 +101,13 @@ impl ReachedEntries {
     /// The list has no duplicates. Does nothing.
     pub fn known(&self)
         ensures { IsDistinct nat_eq self.now }
+    {
+        let _ = &self.entries;
+    }
+
+    /// The list is in order. Does nothing.
+    pub fn in_order(&self)
+        ensures { IsNonDecreasing self.now }
     {
         let _ = &self.entries;
     }

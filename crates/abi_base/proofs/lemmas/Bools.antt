@@ -1,5 +1,5 @@
 -- Laws of truth values.
-use Rattle.std.proofs.Common.{Bool, true, false, cond, refl, ◌≡◌, not, ◌-◌, ap, ◌∙◌, sym, ap₂}
+use Rattle.std.proofs.Common.{Bool, true, false, cond, refl, ◌≡◌, not, ap, ◌∙◌, sym, ap₂}
 use Rattle.std.specs.Prelude.{◌||◌, ◌&&◌}
 use Rattle.std.specs.Bool.{beq}
 

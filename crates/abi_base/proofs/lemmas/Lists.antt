@@ -1,5 +1,5 @@
 -- Laws of lists by their places: joined lists, images, lists in order, and the first items of a list.
-use Rattle.std.proofs.Common.{◌≡◌, ◌<◌, ℕ, zero, suc, ◌+◌, Bool, true, false, cond, List, [], ◌∷◌, ◌++◌, map, length, slice_get, get_or, Option, Some, None, refl, sym, ◌∙◌, ap, subst, inl, inr, ◌⊎◌, arith, append-nil, append_assoc, count_by, ◌-◌, take, drop}
+use Rattle.std.proofs.Common.{◌≡◌, ◌<◌, ℕ, zero, suc, ◌+◌, Bool, true, false, cond, List, [], ◌∷◌, ◌++◌, map, length, slice_get, get_or, Option, Some, None, refl, sym, ◌∙◌, ap, subst, inl, inr, ◌⊎◌, arith, append-nil, append_assoc, count_by, take, drop}
 use Rattle.std.specs.Prelude.{find, All, ◌||◌, position}
 use Rattle.std.specs.List.{list_any, filter_map, Contains, flat_map, filter, list_all}
 use Rattle.std.specs.Option.{option_map}

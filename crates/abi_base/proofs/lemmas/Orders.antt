@@ -1,6 +1,6 @@
 -- Laws of comparisons of numbers and of bytes.
 use Rattle.std.specs.Prelude.{false, ◌==◌}
-use Rattle.std.proofs.Common.{ℕ, arith, ◌≡◌, ◌≢◌, true, List, ◌-◌, sym, refl, ◌≤◌, ap, ◌∙◌, ◌<◌}
+use Rattle.std.proofs.Common.{ℕ, arith, ◌≡◌, ◌≢◌, true, List, sym, refl, ◌≤◌, ap, ◌∙◌, ◌<◌}
 use Rattle.std.proofs.lemmas.Slice.Eq.{bytes_eq-Decides}
 use Rattle.std.specs.Str.{bytes_eq}
 use Rattle.std.proofs.lemmas.Bool.Decides.{nat_tests}

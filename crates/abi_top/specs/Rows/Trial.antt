@@ -29,7 +29,7 @@ pub record IsTried (voices : List Voice) (count : ℕ) (v : Verdict) (untyped : 
 abbrev pub trial_says : List Voice → ℕ → List (List ℕ) → Verdict → Option Remark → List ℕ → Type 0
 trial_says voices count all v untyped text = IsTried voices count v untyped text
 
--- the command is `trial` with a number, and P holds for the lines of a trial of so many functions, with those listeners that make a
+-- the command is `trial` with a number, and P holds for the lines of a trial of this many functions, with those listeners that make a
 -- line of each break
 abbrev pub OnTrial : Call → (List ℕ → Type 0) → Type 0
 OnTrial call P = (count : ℕ) × (text : List ℕ) × (arguments_by call.words ≡ request (trial count)) × IsTrialText (wanted_voices Text call.voices) count text × P text

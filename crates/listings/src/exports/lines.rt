@@ -13,7 +13,7 @@ use std::fmt::Write;
 const BYTES_A_BYTE: usize = 8;
 
 // How many more bytes it may have, however small the file is.
-const BYTES_AT_LEAST: usize = 1_048_576;
+const BYTES_AT_LEAST: usize = 33_554_432;
 
 // Appends a comma and a place.
 #[tactic(auto, unfolding(crate::specs::exports::ExportLines::place_behind))]

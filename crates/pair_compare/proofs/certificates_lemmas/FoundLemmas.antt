@@ -139,7 +139,7 @@ module _ (laws : ClassLaws) (given : GivenLaw) (c : PlainClasses) (sound : AreSo
     );
   }
 
--- the same, of the graph of which the classes are
+-- of the graph whose classes these are
 pub alike_made : ClassLaws → GivenLaw → (c : PlainClasses) (nodes : List PlainNode) → c.nodes ≡ nodes → AreSound c → AreCoarsest c → IsGraph nodes → (found sorted_lines lines : List (ℕ × ℕ)) → found ≡ alike_below c (length nodes) → IsPermutation found sorted_lines → IsSorted first_cmp sorted_lines
     → lines ≡ sorted_lines → AreAlikeLines nodes lines
 alike_made laws given c nodes is sound coarsest graph found sorted_lines lines found_is moved sorted end =

@@ -35,7 +35,7 @@ steps_of l (Then path part) = steps_of l path ++ (view_at l.graph (end_of l path
 abbrev pub steps_text : PlainLibrary → Path → List ℕ
 steps_text l path = path_text (steps_of l path)
 
--- the separator in front of a step that has so many before it
+-- the separator in front of a step that has this many before it
 abbrev pub between : ℕ → List ℕ
 between before = if before == 0 then [] else codes " / "
 

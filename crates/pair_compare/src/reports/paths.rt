@@ -58,7 +58,7 @@ fn next_node(view: &View<OldIx>, part: usize) -> OldIx
     }
 }
 
-// Appends the separator in front of a step that has so many before it.
+// Appends the separator in front of a step that has this many before it.
 fn push_between(text: &mut String, before: usize) -> Result<(), AllocError>
     ensures { OnOk result (string_bytes text.new ≡ string_bytes text.old ++ between before) }
 {
@@ -68,7 +68,7 @@ fn push_between(text: &mut String, before: usize) -> Result<(), AllocError>
     text.push_str(" / ")
 }
 
-// Appends a step that has so many before it.
+// Appends a step that has this many before it.
 fn push_one(
     alloc: Global,
     text: &mut String,

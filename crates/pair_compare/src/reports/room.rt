@@ -4,11 +4,11 @@ use crate::bound_pair::BoundPair;
 use abi_base::{Limit, NoMemory, taken};
 use report::Row;
 
-// The limit in bytes: so many for each byte of both files, plus a constant. The report of two builds from one source has less than
+// The limit in bytes: a number for each byte of both files, plus a constant. The report of two builds from one source has less than
 // one byte for each hundred bytes of the files.
 const BYTES_A_BYTE: usize = 8;
 
-const BYTES_AT_LEAST: usize = 1_048_576;
+const BYTES_AT_LEAST: usize = 67_108_864;
 
 // What a row takes besides its texts, in bytes.
 const ROW: usize = 128;
@@ -46,7 +46,7 @@ impl Room {
         }
     }
 
-    /// Takes the room for a row whose texts have so many bytes. Returns `NoMemory` where too little is left.
+    /// Takes the room for a row whose texts have this many bytes. Returns `NoMemory` where too little is left.
     pub(crate) fn take_letters(&mut self, letters: usize) -> Result<(), NoMemory> {
         self.left = taken(Limit::Report, self.left, letters.saturating_add(ROW))?;
         Ok(())

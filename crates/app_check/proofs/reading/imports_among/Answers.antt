@@ -1,18 +1,30 @@
-use Rattle.std.proofs.Common.{◌∙◌, sym}
+use Rattle.std.proofs.Common.{◌∙◌, sym, inr}
 use Rattle.elf_needs.specs.Plain.{needed}
-use Rattle.app_check.proofs.AppFault.{imports_last, fault_is, imports_are}
+use Rattle.std.proofs.lemmas.Result.{err_from_is_err_and}
+use Rattle.abi_base.proofs.lemmas.Outcomes.{on_limit_weaker}
+use Rattle.app_check.proofs.AppFault.{imports_last, fault_is, imports_are, imports_past}
 use Rattle.app_check.proofs.reading.imports_among.Goals as goal
 
 pub returns-in-Some-clause-judged : goal.returns-in-Some-clause-judged
 returns-in-Some-clause-judged c =
-    imports_last c.args.file.now c.args.symbols.now c.requires c.in_ok-versions.ensures.judged c.in_ok-needs.ensures.judged
-    ∙ sym (c.in-Some.ensures ∙ fault_is c.args.file.now c.args.symbols.now (needed c.in_ok-needs.needs) c.in_ok-indexes.indexes c.requires c.in_ok-needs.ensures.read c.in_ok-indexes.ensures)
+    imports_last c.args.file.now c.args.symbols.now c.requires.symbols c.in_ok-versions.ensures.judged c.in_ok-needs.ensures.judged
+    ∙ sym (c.in-Some.ensures ∙ fault_is c.args.file.now c.args.symbols.now (needed c.in_ok-needs.needs) c.in_ok-indexes.indexes c.requires.symbols c.in_ok-needs.ensures.read c.in_ok-indexes.ensures.read)
 
 pub returns-clause-judged : goal.returns-clause-judged
 returns-clause-judged c =
-    imports_last c.args.file.now c.args.symbols.now c.requires c.in_ok-versions.ensures.judged c.in_ok-needs.ensures.judged
-    ∙ sym (c.in_default.ensures ∙ fault_is c.args.file.now c.args.symbols.now (needed c.in_ok-needs.needs) c.in_ok-indexes.indexes c.requires c.in_ok-needs.ensures.read c.in_ok-indexes.ensures)
+    imports_last c.args.file.now c.args.symbols.now c.requires.symbols c.in_ok-versions.ensures.judged c.in_ok-needs.ensures.judged
+    ∙ sym (c.in_default.ensures ∙ fault_is c.args.file.now c.args.symbols.now (needed c.in_ok-needs.needs) c.in_ok-indexes.indexes c.requires.symbols c.in_ok-needs.ensures.read c.in_ok-indexes.ensures.read)
 
 pub returns-clause-read : goal.returns-clause-read
 returns-clause-read c =
-    c.in_ok-imports.ensures.read ∙ imports_are c.args.file.now c.args.symbols.now (needed c.in_ok-needs.needs) c.in_ok-indexes.indexes c.requires c.in_ok-needs.ensures.read c.in_ok-indexes.ensures
+    c.in_ok-imports.ensures.read ∙ imports_are c.args.file.now c.args.symbols.now (needed c.in_ok-needs.needs) c.in_ok-indexes.indexes c.requires.symbols c.in_ok-needs.ensures.read c.in_ok-indexes.ensures.read
+
+pub returns-in_err-imports-clause-past : goal.returns-in_err-imports-clause-past
+returns-in_err-imports-clause-past c =
+    let p = err_from_is_err_and c.from_residual-in_err-imports.result c.from_residual-in_err-imports.ensures.1 in
+    rw (p.1, p.2) (on_limit_weaker c.in_err-imports.field-0.0 _ _
+    (λ l h. inr (inr (
+      h.0,
+      imports_past c.args.file.now c.args.symbols.now (needed c.in_ok-needs.needs) c.in_ok-indexes.indexes c.requires.symbols c.in_ok-needs.ensures.read c.in_ok-indexes.ensures.read h.1,
+    )))
+    c.in_err-imports.ensures.past)

@@ -1,4 +1,4 @@
--- The exploration goes on from visit to visit, and ends since there are only so many triples of representatives.
+-- The exploration goes on from visit to visit, and ends since there are finitely many triples of representatives.
 use Rattle.std.proofs.Common.{◌<◌, arith, add-one}
 use Rattle.std.proofs.lemmas.Option.{slice_get_within}
 use Rattle.abi_types.specs.Graphs.{IsGraph}

@@ -1,31 +1,9 @@
--- What was explored can be read, and its notes are those of all visits.
-use Rattle.std.proofs.Common.{◌∙◌, subst}
-use Rattle.abi_types.specs.Graphs.{IsGraph}
-use Rattle.pair_compare.specs.BoundPair.{sides_of}
-use Rattle.type_notes.proofs.WalkLemmas.{readable}
+-- The classes are those of the graphs.
+use Rattle.std.proofs.Common.{◌∙◌}
 use Rattle.type_notes.proofs.walk.counted_notes.Goals as goal
 
-pub notes_with_definitions-requires : goal.notes_with_definitions-requires
-notes_with_definitions-requires g c =
-    readable (record {
-      walks = c.paths_end_where_they_lead.ensures.walks;
-      comes = c.paths_by_representatives.ensures.comes;
-      along = c.parents_spell_paths.ensures.along;
-      one = c.parents_spell_paths.ensures.one;
-    }) (sides_of c.args.ground.now.pair) c.in_ok-old_classes.old_classes c.in_ok-new_classes.new_classes c.in_ok-explored.explored.visits c.in_ok-explored.explored.breaks
-    (subst IsGraph c.graph-old_graph.ensures c.known.ensures) (subst IsGraph c.graph-new_graph.ensures c.known-2.ensures)
-    c.explore_types.ensures.sound c.in_ok-explored.ensures.explored
+pub notes_of_classes-requires-clause-old_nodes : goal.notes_of_classes-requires-clause-old_nodes
+notes_of_classes-requires-clause-old_nodes g c = c.in_ok-old_classes.ensures.graph ∙ c.graph-old_graph.ensures
 
-pub returns : goal.returns
-returns g c = record {
-  old_classes = c.in_ok-old_classes.old_classes;
-  new_classes = c.in_ok-new_classes.new_classes;
-  old_nodes = c.in_ok-old_classes.ensures.graph ∙ c.graph-old_graph.ensures;
-  new_nodes = c.in_ok-new_classes.ensures.graph ∙ c.graph-new_graph.ensures;
-  old_alone = c.in_ok-old_classes.ensures.alone;
-  new_alone = c.in_ok-new_classes.ensures.alone;
-  visits = c.in_ok-explored.explored.visits;
-  breaks = c.in_ok-explored.explored.breaks;
-  explored = c.in_ok-explored.ensures.explored;
-  are = c.in_ok-notes.ensures;
-}
+pub notes_of_classes-requires-clause-new_nodes : goal.notes_of_classes-requires-clause-new_nodes
+notes_of_classes-requires-clause-new_nodes g c = c.in_ok-new_classes.ensures.graph ∙ c.graph-new_graph.ensures

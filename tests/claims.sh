@@ -1,0 +1,12 @@
+#!/usr/bin/env bash
+# Checks that each call and each clause that docs/PROOFS.md and the tables of tests/claims/ name is in the sources, and that each sentence
+# of those tables is in its page.
+set -euo pipefail
+title="claims"
+tools="python3"
+crate=
+. "$(dirname "$0")/common.bash"
+
+/usr/bin/python3 -B "$root/tests/claims" | tee log
+checks=$(sed -n 's/^\([0-9]*\) claims .*/\1/p' log)
+finished

@@ -1,0 +1,141 @@
+"""Gives packages to `abi-packages` in this process, and judges what it answers by what dpkg-deb and rpm2cpio unpack."""
+
+from __future__ import annotations
+
+import contextlib
+import io
+import os
+import resource
+import shutil
+import subprocess
+import sys
+import tempfile
+from collections import Counter
+from dataclasses import dataclass
+from pathlib import Path
+from typing import Iterator, Optional
+
+from abi_tools import package_judging
+from abi_tools.abi_program import Abi, Answer
+from abi_tools.faults import run_tool
+from abi_tools.gates import Judgement
+from abi_tools.packages_command import main
+from abi_tools.verdicts import Verdict
+from fuzz_packages.corpus import LIBRARY, Corpus
+
+# The limit of memory of each step in megabytes, and how much each process may take in all: what Python and the tool take is added.
+MEGABYTES = 300
+_MOST = (MEGABYTES + 150) << 10
+_SECONDS = 60
+
+
+@dataclass(frozen=True)
+class Wrong:
+    """What is wrong with an answer."""
+
+    what: str
+
+
+class Trials:
+    """Trials in a folder of their own."""
+
+    def __init__(self, folder: Path, corpus: Corpus) -> None:
+        self._folder = folder
+        self._corpus = corpus
+        self.counts: Counter[int] = Counter()
+        self.canary = folder / "canary"
+        self.canary.mkdir()
+        (self.canary / "libfuzz.so.1").write_bytes(corpus.good)
+        self._outside = folder / "outside"
+        work = folder / "work"
+        work.mkdir()
+        tempfile.tempdir = str(work)
+        package_judging.judge = self._judge  # type: ignore[assignment]
+        _watch((str(work), str(folder / "certificates")), (str(folder / "packages"), "/proc/self/", sys.prefix, str(
+            Path(package_judging.__file__).parents[1])), self._outside)
+
+    def _judge(self, _abi: Abi, _old: Path, new: Path, _rules: Optional[Path], _share: float) -> Judgement:
+        """What `abi` would say: only one library may replace the other one, and only one may not."""
+        contents = (_abi.folder / new).read_bytes()
+        if contents == self._corpus.good:
+            return Judgement(Verdict.YES, (), Answer(0, "yes 2\n", ""), 1, 1)
+        if contents == self._corpus.bad:
+            return Judgement(Verdict.NO, (), Answer(1, "no\nL2 fuzz: size\n", ""))
+        return Judgement(Verdict.CANNOT_TELL, ("changed",), None)
+
+    def wrong(self, old: Path, new: Path) -> Optional[Wrong]:
+        """What is wrong with the answer on two packages; None if nothing is."""
+        out, errors = io.StringIO(), io.StringIO()
+        with contextlib.redirect_stdout(out), contextlib.redirect_stderr(errors), _watched():
+            status = run_tool("abi-packages", main, ["--certificates", str(self._folder / "certificates"), "--memory", str(MEGABYTES),
+                                                     "--seconds", str(_SECONDS), "--workers", "1", str(old), "--", str(new)], 2)
+        self.counts[status] += 1
+        said = out.getvalue() + errors.getvalue()
+        if status not in (0, 1, 2) or "Traceback" in said or "fault of this tool" in said:
+            return Wrong(f"status {status}: {said}")
+        if any(not line.isprintable() for line in said.splitlines()):
+            return Wrong(f"a line drives the terminal: {said!r}")
+        if self._outside.exists():
+            seen = self._outside.read_text()
+            self._outside.unlink()
+            return Wrong(f"files outside: {seen}")
+        if any((self._folder / "work").iterdir()) or sorted(os.listdir(self._folder / "canary")) != ["libfuzz.so.1"]:
+            return Wrong("a file is left")
+        for who in (resource.RUSAGE_SELF, resource.RUSAGE_CHILDREN):
+            if resource.getrusage(who).ru_maxrss > _MOST:
+                return Wrong(f"{resource.getrusage(who).ru_maxrss} KB of memory")
+        return self._wrong_yes(old, new) if status == 0 else None
+
+    def _wrong_yes(self, old: Path, new: Path) -> Optional[Wrong]:
+        """A yes is wrong if the library in its place in the new package may not replace the one in the old package."""
+        before, after = (self._library(package, side) for package, side in ((old, "old"), (new, "new")))
+        if before is not None and after == self._corpus.bad:
+            return Wrong("yes, and the new library breaks")
+        return None
+
+    def _library(self, package: Path, side: str) -> Optional[bytes]:
+        """The library that dpkg-deb or rpm2cpio unpacks; None if there is none, or if they refuse the package."""
+        folder = self._folder / "unpacked" / side
+        shutil.rmtree(folder, ignore_errors=True)
+        folder.mkdir(parents=True)
+        with package.open("rb") as stream:
+            is_deb = stream.read(8) == b"!<arch>\n"
+        command = (["dpkg-deb", "-x", str(package), str(folder)] if is_deb
+                   else ["sh", "-c", f"rpm2cpio '{package}' | bsdtar -xf - -C '{folder}'"])
+        subprocess.run(command, capture_output=True, check=False, stdin=subprocess.DEVNULL)
+        place = Path(os.path.realpath(folder / LIBRARY))
+        return place.read_bytes() if place.is_relative_to(folder.resolve()) and place.is_file() else None
+
+
+_WRITES = ("os.mkdir", "os.rename", "os.link", "os.symlink", "os.remove", "os.rmdir", "os.chmod", "os.truncate", "os.chown")
+
+
+def _watch(written: tuple[str, ...], read: tuple[str, ...], report: Path) -> None:
+    """Writes each file that the tool opens elsewhere, or changes elsewhere, to a report. Steps are watched as well."""
+    busy: list[bool] = []
+
+    def hook(event: str, arguments: tuple[object, ...]) -> None:
+        if busy or event not in ("open", *_WRITES) or not isinstance(arguments[0], (str, bytes, Path)):
+            return
+        path = os.fsdecode(os.fspath(arguments[0]))
+        if _WATCHING[0] and os.path.isabs(path) and not path.startswith((*written, *(read if event in ("open", "os.link") else ()))):
+            busy.append(True)
+            with report.open("a") as stream:
+                stream.write(f"{event} {path!r}\n")
+            busy.pop()
+
+    sys.addaudithook(hook)
+
+
+# Whether the tool runs at the moment.
+_WATCHING = [False]
+
+
+@contextlib.contextmanager
+def _watched() -> Iterator[None]:
+    """Watches what the tool opens."""
+    _WATCHING[0] = True
+    try:
+        yield
+    finally:
+        _WATCHING[0] = False

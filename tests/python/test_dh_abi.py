@@ -1,0 +1,228 @@
+"""`dh_abi` and its sequence: debhelper builds a small package whose only mention of `abi` is `Build-Depends: dh-sequence-abi`."""
+
+from __future__ import annotations
+
+import os
+from pathlib import Path
+
+import pytest
+
+from conftest import TOOLS, Ended, abi, done, needs, run
+
+DEBHELPER = TOOLS / "debhelper"
+SOURCE = """\
+struct stream { unsigned char *next; unsigned left; int status; };
+struct inside { int a; };
+unsigned stream_left(const struct stream *stream) { return stream->left; }
+int stream_inside(struct inside *inside) { return inside->a; }
+"""
+BREAK = SOURCE.replace("*next;", "*next; long position;")
+CONTROL = """\
+Source: stream
+Section: libs
+Priority: optional
+Maintainer: Nobody <nobody@example.org>
+Build-Depends: debhelper-compat (= 13), dh-sequence-abi
+Standards-Version: 4.6.2
+Rules-Requires-Root: no
+
+Package: libstream1
+Architecture: any
+Depends: ${shlibs:Depends}, ${misc:Depends}
+Description: small library
+
+Package: stream-doc
+Architecture: all
+Depends: ${misc:Depends}
+Description: package without a library
+"""
+CHANGELOG = "stream (1.0) unstable; urgency=medium\n\n  * A release.\n\n -- Nobody <nobody@example.org>  Sat, 28 Nov 2026 12:00:00 +0000\n"
+RULES = "#!/usr/bin/make -f\n%:\n\tdh $@\n"
+MAKEFILE = """\
+SONAME = libstream.so.1
+CFLAGS = -g -O1
+all:
+\tgcc $(CFLAGS) -fPIC -shared -Wl,--build-id -Wl,-soname,$(SONAME) -o $(SONAME) stream.c
+clean:
+\trm -f libstream.so.*
+"""
+BASELINE = "debian/abi/libstream.so.1.abi"
+KEPT = "debian/.debhelper/abi/libstream1"
+
+
+def write(folder: Path, texts: dict[str, str]) -> None:
+    """Writes files of a source package."""
+    for name, text in texts.items():
+        path = folder / name
+        path.parent.mkdir(parents=True, exist_ok=True)
+        path.write_text(text)
+
+
+@pytest.fixture
+def package(tmp_path: Path, monkeypatch: pytest.MonkeyPatch) -> Path:
+    """A source package without baselines, with dh_abi, the sequence and the tools where debhelper finds them."""
+    needs("dpkg-buildpackage", "dh", "gcc")
+    programs = tmp_path / "programs"
+    programs.mkdir()
+    (programs / "abi").symlink_to(Path(os.environ["ABI"]).resolve())
+    (programs / "abi-json").symlink_to(Path(os.environ["ABI_JSON"]).resolve())
+    monkeypatch.setenv("PATH", f"{programs}:{TOOLS}:{DEBHELPER}:{os.environ['PATH']}")
+    monkeypatch.setenv("PERL5LIB", str(DEBHELPER))
+    monkeypatch.setenv("DEB_BUILD_OPTIONS", "noautodbgsym")
+    monkeypatch.delenv("DEB_BUILD_PROFILES", raising=False)
+    folder = tmp_path / "stream-1.0"
+    write(folder, {"stream.c": SOURCE, "Makefile": MAKEFILE, "debian/control": CONTROL, "debian/changelog": CHANGELOG,
+                   "debian/rules": RULES, "debian/libstream1.install": "libstream.so.* usr/lib/x86_64-linux-gnu\n",
+                   "debian/source/format": "3.0 (native)\n"})
+    (folder / "debian/rules").chmod(0o755)
+    return folder
+
+
+def build(folder: Path, *options: str) -> Ended:
+    """A build of the package. The package dh-abi is not installed, so what it needs is not checked."""
+    return run("dpkg-buildpackage", "-us", "-uc", "-b", "-d", *options, folder=folder)
+
+
+def contents(folder: Path, to: Path) -> Path:
+    """The unpacked package of the library."""
+    done("dpkg-deb", "-x", folder.parent / "libstream1_1.0_amd64.deb", to)
+    return to / "usr"
+
+
+def installed(folder: Path, *options: str) -> None:
+    """Compiles the library, and installs it into the folder of its package, as all steps before dh_abi do."""
+    done("make", "-s", *options, folder=folder)
+    library = folder / "debian/libstream1/usr/lib/x86_64-linux-gnu"
+    library.mkdir(parents=True, exist_ok=True)
+    for path in folder.glob("libstream.so.*"):
+        path.rename(library / path.name)
+
+
+def test_a_package_from_its_first_build_to_a_break(package: Path, tmp_path: Path) -> None:
+    """The first build fails, since no interface is released; the build of the next release passes, and that of a break fails."""
+    ended = build(package)
+    assert ended.status != 0 and f"cannot tell: there is no {BASELINE}" in ended.errors, ended
+    done("dh_abi", "--update", folder=package)
+    write(package, {"debian/abi.rules": "[suppress_type]\nname = inside\n",
+                    "stream.c": SOURCE.replace("int a;", "long a;") + "int one(void) { return 1; }\n"})
+    ended = build(package)
+    assert ended.status == 0 and "yes: 2 exports compared, 2 with types" in ended.out, ended
+    assert ended.out.index(" dh_abi") < ended.out.index(" dh_dwz")
+    usr = contents(package, tmp_path / "made")
+    document = usr / "share/doc/libstream1"
+    assert (document / "abi.rules").read_text() == "[suppress_type]\nname = inside\n"
+    # After the build the library is stripped, and what dh_abi read is what the certificate is about.
+    released = tmp_path / "released.abi"
+    (package / BASELINE).rename(released)
+    done("dh_abi", "--update", folder=package)
+    ended = abi("verify", "--rules", document / "abi.rules", released, package / BASELINE, document / "libstream.so.1.cert")
+    assert ended.out == "accepted\n", ended
+    write(package, {"stream.c": BREAK})
+    ended = build(package)
+    report = package / KEPT / "libstream.so.1.report"
+    assert ended.status != 0 and "L7 stream_left param 1 / target: member left" in ended.out, ended
+    assert f"no: libstream.so.1 of libstream1 may not replace the released one; the report is {report.relative_to(package)}" in ended.errors
+    assert "struct stream" in report.read_text()
+    assert not (package / KEPT / "libstream.so.1.cert").exists()
+
+
+def judged(folder: Path, *options: str) -> Ended:
+    """Runs dh_abi on an installed library."""
+    return run("dh_abi", *options, folder=folder)
+
+
+@pytest.fixture
+def released(package: Path) -> Path:
+    """A source package with the baseline of its release, and with its library installed."""
+    installed(package)
+    done("dh_abi", "--update", folder=package)
+    return package
+
+
+def test_a_lost_option_for_debug_information_cannot_be_told(released: Path) -> None:
+    installed(released, "CFLAGS=-O1")
+    ended = judged(released)
+    words = "cannot tell whether libstream.so.1 of libstream1 may replace the released one"
+    assert ended.status != 0 and words in ended.errors and "no debug information" in ended.out, ended
+    ended = judged(released, "--allow-cannot-tell")
+    assert ended.status == 0 and words in ended.errors, ended
+    assert not list(released.rglob("*.cert"))
+
+
+def test_a_changed_soname_is_told(released: Path) -> None:
+    (released / "debian/libstream1/usr/lib/x86_64-linux-gnu/libstream.so.1").unlink()
+    installed(released, "SONAME=libstream.so.2")
+    ended = judged(released)
+    assert ended.status != 0 and "there is no debian/abi/libstream.so.2.abi" in ended.errors, ended
+    assert f"no: no library of the packages has the soname of {BASELINE}" in ended.errors
+    done("dh_abi", "--update", folder=released)
+    assert [path.name for path in (released / "debian/abi").iterdir()] == ["libstream.so.2.abi"]
+    assert judged(released).status == 0
+
+
+def test_options_of_debhelper(released: Path, monkeypatch: pytest.MonkeyPatch) -> None:
+    """A break, which each of these leaves out."""
+    write(released, {"stream.c": BREAK})
+    installed(released)
+    baseline = (released / BASELINE).read_bytes()
+    assert judged(released).status != 0
+    for options in (["-pstream-doc"], ["-Nlibstream1"], ["-i"]):
+        assert judged(released, *options).status == 0, options
+    assert judged(released, "-plibstream1").status != 0
+    assert judged(released, "-Xlibstream.so").status == 0
+    ended = judged(released, "--no-act", "--verbose")
+    assert ended.status == 0 and "abi-gate --require-types 90" in ended.out, ended
+    judged(released, "--no-act", "--update")
+    assert (released / BASELINE).read_bytes() == baseline
+    monkeypatch.setenv("DEB_BUILD_OPTIONS", "nocheck")
+    assert judged(released).status == 0 and not (released / KEPT).exists()
+    monkeypatch.setenv("DEB_BUILD_OPTIONS", "")
+    monkeypatch.setenv("DEB_HOST_ARCH", "arm64")
+    assert judged(released).status == 0
+    ended = judged(released, "--update")
+    assert ended.status != 0 and "libraries for amd64 alone" in ended.errors and (released / BASELINE).read_bytes() == baseline, ended
+
+
+def test_an_error_is_no_answer(released: Path, tmp_path: Path, monkeypatch: pytest.MonkeyPatch) -> None:
+    """Stand-ins of abi-gate that end as it never does, or say yes without a certificate."""
+    gate = tmp_path / "stand-ins/abi-gate"
+    gate.parent.mkdir()
+    monkeypatch.setenv("PATH", f"{gate.parent}:{os.environ['PATH']}")
+    for ending, words in (("exit 0", "gave no answer"), ("exit 3", "ended with status 3"), ("kill -9 $$", "the signal 9 ended abi-gate")):
+        gate.write_text(f"#!/bin/sh\n{ending}\n")
+        gate.chmod(0o755)
+        ended = judged(released, "--allow-cannot-tell")
+        assert ended.status != 0 and words in ended.errors, ended
+    gate.unlink()
+    monkeypatch.setenv("ABI", str(tmp_path / "none"))
+    ended = judged(released)
+    assert ended.status != 0 and "there is no program" in ended.out + ended.errors, ended
+
+
+def test_versions_of_symbols_to_raise_are_named(released: Path) -> None:
+    """`struct stream` has a hole of four bytes at its end, which gets a member."""
+    write(released, {"stream.c": SOURCE.replace("unsigned left;", "long left;")})
+    installed(released)
+    done("dh_abi", "--update", folder=released)
+    write(released, {"stream.c": SOURCE.replace("unsigned left; int status;", "long left; int status; int added;")})
+    installed(released)
+    assert "added" not in judged(released).errors
+    write(released, {"debian/libstream1.symbols": "libstream.so.1 libstream1 #MINVER#\n stream_left@Base 1.0\n"})
+    ended = judged(released)
+    words = "raise the versions of the exports that lead to a new member: stream_left param 1 / target: member added at bit 160"
+    assert ended.status == 0 and f"debian/libstream1.symbols: {words}" in ended.errors, ended
+
+
+def test_an_override_replaces_the_call(released: Path) -> None:
+    write(released, {"stream.c": BREAK, "debian/rules": RULES + "override_dh_abi:\n\techo my own gate\n"})
+    ended = run("debian/rules", "binary", folder=released)
+    assert ended.status == 0 and "my own gate\n" in ended.out, ended
+
+
+def test_a_hostile_soname_is_refused(released: Path) -> None:
+    library = released / "debian/libstream1/usr/lib/x86_64-linux-gnu"
+    done("gcc", "-g", "-fPIC", "-shared", "-Wl,-soname,../../x", "-o", library / "libx.so", released / "stream.c")
+    for options in ([], ["--update"]):
+        ended = judged(released, *options)
+        assert ended.status != 0 and "has an unusual soname" in ended.errors, ended
+    assert not (released / "x.abi").exists()

@@ -1,0 +1,416 @@
+"""`abi-packages` on packages that were made to mislead it, or to cost much."""
+
+from __future__ import annotations
+
+import gzip
+import os
+import signal
+import subprocess
+import tarfile
+import time
+from pathlib import Path
+
+import pytest
+from conftest import FIRST, SECOND, TOOLS, done, run, script
+from package_support import (CHANGED, LIBRARIES, Build, Member, deb, hostile_deb, installed, link, packages, packed, rpm, tar)
+
+SONAME = "libshapes.so.1"
+
+
+@pytest.fixture
+def good(build: Build) -> bytes:
+    """A library."""
+    return build("good.so", FIRST, soname=SONAME).read_bytes()
+
+
+@pytest.fixture
+def bad(build: Build) -> bytes:
+    """A library that may not replace the good one."""
+    return build("bad.so", CHANGED, soname=SONAME).read_bytes()
+
+
+@pytest.fixture
+def old(good: bytes, tmp_path: Path) -> Path:
+    """A package of the good library."""
+    return hostile_deb(tmp_path / "old.deb", [Member(f"usr/lib/{SONAME}", good)])
+
+
+@pytest.mark.parametrize("target", ("{outside}", "../../../../../../../../..{outside}", "..{outside}"))
+def test_a_link_to_a_folder_leads_to_files_of_the_package_alone(old: Path, good: bytes, bad: bytes, tmp_path: Path, target: str) -> None:
+    """The folder exists on this machine, and has a library that may replace the old one."""
+    outside = tmp_path / "outside"
+    outside.mkdir()
+    (outside / SONAME).write_bytes(good)
+    new = hostile_deb(tmp_path / "new.deb", [link("usr/lib", target.format(outside=outside)), Member(f"usr/lib/{SONAME}", bad)])
+    ended = packages(tmp_path, old, "--", new)
+    assert ended.status == 1 and ended.out.startswith(f"no {SONAME}: "), ended
+    assert (outside / SONAME).read_bytes() == good
+
+
+def test_a_file_below_a_link_is_one_of_the_package(old: Path, good: bytes, bad: bytes, tmp_path: Path) -> None:
+    """The link leads to a folder of the package."""
+    for number, (contents, status) in enumerate(((good, 0), (bad, 1))):
+        members = [Member("usr/lib64", kind=tarfile.DIRTYPE), link("usr/lib", "lib64"), Member(f"./usr/lib/{SONAME}", contents)]
+        ended = packages(tmp_path, old, "--", hostile_deb(tmp_path / f"new{number}.deb", members))
+        assert ended.status == status, ended
+
+
+def test_each_library_of_a_soname_is_judged(good: bytes, bad: bytes, tmp_path: Path) -> None:
+    """Two libraries of one soname in one folder, as in libfakeroot; one of them breaks, whatever their order."""
+    folder = "usr/lib/libshapes"
+    for name, first, second in (("both", good, good), ("first", bad, good), ("second", good, bad)):
+        members = [Member(f"{folder}/shapes-sysv.so", first), Member(f"{folder}/shapes-tcp.so", second)]
+        hostile_deb(tmp_path / f"{name}.deb", members)
+        hostile_deb(tmp_path / f"{name}-turned.deb", members[::-1])
+    for name, status in (("both", 0), ("first", 1), ("second", 1)):
+        for turned in ("", "-turned"):
+            ended = packages(tmp_path, tmp_path / "both.deb", "--", tmp_path / f"{name}{turned}.deb")
+            assert ended.status == status and ended.out.splitlines()[-1].startswith("2 libraries: "), ended
+            assert len(ended.out.splitlines()) == 3
+    assert f"no {folder}/shapes-tcp.so: " in ended.out
+
+
+@pytest.mark.parametrize("folder", ("usr/lib/schöne", "usr/lib/a\\b", "usr/lib/a b"))
+@pytest.mark.parametrize("locale", ("C", "C.UTF-8"))
+def test_names_in_an_rpm_are_bytes(build: Build, tmp_path: Path, folder: str, locale: str) -> None:
+    made = [rpm(tmp_path, name, {f"{folder}/{SONAME}": build(f"{name}.so", text, soname=SONAME)})
+            for name, text in (("old", FIRST), ("new", CHANGED))]
+    ended = run("env", f"LC_ALL={locale}", TOOLS / "abi-packages", "--certificates", tmp_path / "kept", made[0], "--", made[1])
+    assert ended.status == 1 and ended.out.startswith(f"no {SONAME}: "), ended
+
+
+@pytest.mark.parametrize("way", ("none", "xz"))
+def test_of_two_archives_the_one_that_dpkg_takes_is_judged(old: Path, good: bytes, bad: bytes, tmp_path: Path, way: str) -> None:
+    parts = {name: tar([Member(f"usr/lib/{SONAME}", contents)]) for name, contents in (("good", good), ("bad", bad))}
+    name = "data.tar"
+    if way == "xz":
+        name = "data.tar.xz"
+        parts = {one: subprocess.run(["xz"], input=data, capture_output=True, check=True).stdout for one, data in parts.items()}
+    for first, second, status in (("bad", "good", 1), ("good", "bad", 0)):
+        new = packed(tmp_path / f"{first}.deb", (name, parts[first]), (name, parts[second]))
+        wanted = bad if first == "bad" else good
+        assert (installed(new, tmp_path / f"{first}.tree") / "usr/lib" / SONAME).read_bytes() == wanted
+        ended = packages(tmp_path, old, "--", new)
+        assert ended.status == status, ended
+
+
+def test_two_members_of_one_name_are_refused(old: Path, good: bytes, bad: bytes, tmp_path: Path) -> None:
+    """dpkg takes the last one."""
+    name = f"usr/lib/{SONAME}"
+    hostile: list[list[Member]] = [
+        [Member(name, good), Member(name, bad)], [Member(name, good), Member(f"./usr//lib/{SONAME}", b"text")],
+        [Member(name, b"text"), Member(name, bad)], [Member(name, good), link(name, "other")],
+        [Member(name, good), Member(name, kind=tarfile.DIRTYPE)]]
+    for number, members in enumerate(hostile):
+        ended = packages(tmp_path, old, "--", hostile_deb(tmp_path / f"{number}.deb", members))
+        assert ended.status == 2 and f"two of its members have the name {name}" in ended.errors.replace("./usr//", "usr/"), ended
+
+
+def test_members_that_dpkg_refuses_are_refused(old: Path, good: bytes, tmp_path: Path) -> None:
+    name = f"usr/lib/{SONAME}"
+    archive = tar([Member(name, good)])
+    for number, (part, words) in enumerate((
+            ([("data.tar.zip", archive)], "data.tar.zip"), ([("other", b""), ("data.tar", archive)], "other where data.tar"),
+            ([("control.tar", archive)], "control.tar where data.tar"), ([], "no member data.tar"),
+            ([("data.tar", tar([Member(f"usr/lib/{'é' * 80}/{SONAME}", good)], tarfile.PAX_FORMAT))], "pax"),
+            ([("data.tar.xz", archive)], "damaged"), ([("data.tar.gz", gzip.compress(archive) + b"more")], "other bytes follow"),
+            ([("data.tar", archive[:len(archive) // 2])], "damaged"), ([("data.tar", b"\1" * 20000)], "damaged"))):
+        ended = packages(tmp_path, old, "--", packed(tmp_path / f"{number}.deb", *part))
+        assert ended.status == 2 and words in ended.errors and len(ended.errors.splitlines()) == 1, ended
+    fine = packed(tmp_path / "fine.deb", ("_extra", b"x"), ("data.tar", archive), ("behind", b""))
+    assert packages(tmp_path, old, "--", fine).status == 0
+
+
+def test_a_damaged_header_ends_no_archive_early(good: bytes, bad: bytes, tmp_path: Path) -> None:
+    """The library after it would be neither seen in the old package nor missed in the new one."""
+    archive = bytearray(tar([Member("usr/share/first", b"x" * 512), Member(f"usr/lib/{SONAME}", good)]))
+    archive[1024 + 148] ^= 1
+    made = hostile_deb(tmp_path / "damaged.deb", bytes(archive))
+    new = hostile_deb(tmp_path / "new.deb", [Member(f"usr/lib/{SONAME}", bad)])
+    for sides in ((made, "--", new), (new, "--", made)):
+        ended = packages(tmp_path, *sides)
+        assert ended.status == 2 and "damaged.deb is damaged" in ended.errors, ended
+
+
+def test_a_soname_in_two_folders_and_a_merged_system(good: bytes, bad: bytes, tmp_path: Path) -> None:
+    """/lib became /usr/lib, or there is one copy more: the libraries are neither gone nor new."""
+    private = f"usr/lib/private/{SONAME}"
+    old = hostile_deb(tmp_path / "old.deb", [Member(f"lib/{SONAME}", good), Member(private, good)])
+    for name, contents, status in (("good", good, 0), ("bad", bad, 1)):
+        new = hostile_deb(tmp_path / f"{name}.deb", [Member(f"usr/lib/{SONAME}", contents), Member(private, good)])
+        ended = packages(tmp_path, old, "--", new)
+        assert ended.status == status and "gone" not in ended.out and "new" not in ended.out.replace("new 2 of 2", ""), ended
+    single = hostile_deb(tmp_path / "single.deb", [Member(f"lib/{SONAME}", good)])
+    ended = packages(tmp_path, single, "--", tmp_path / "good.deb")
+    assert ended.status == 0 and ended.out.splitlines()[-1] == "2 libraries: 1 new, 1 yes", ended
+
+
+def test_what_cannot_be_unpacked_has_a_sentence(old: Path, good: bytes, tmp_path: Path) -> None:
+    name = f"usr/lib/{SONAME}"
+    deep = "/".join(["d"] * 1000)
+    loop = [link("a", "b"), link("b", "a"), Member(f"a/{SONAME}", good)]
+    for number, (members, words) in enumerate((
+            ([Member(name, kind=tarfile.LNKTYPE, target="usr/lib/none")], "is a hard link to usr/lib/none, which it does not bring"),
+            (loop, "loop of links"), ([Member(f"{deep}/{SONAME}", good)], "deeper than"),
+            ([Member(f"{'d' * 5000}/{SONAME}", good)], "more than 4096 bytes"),
+            ([Member("usr/lib", b"text"), Member(name, good)], "which is no folder"),
+            ([Member(f"usr/../../{name}", good)], "outside of its folder"), ([link(name, "")], "no target"))):
+        ended = packages(tmp_path, old, "--", hostile_deb(tmp_path / f"{number}.deb", members))
+        assert ended.status == 2 and words in ended.errors and len(ended.errors.splitlines()) == 1, ended
+
+
+def test_hard_links_are_files(old: Path, good: bytes, bad: bytes, tmp_path: Path) -> None:
+    for number, (contents, status) in enumerate(((good, 0), (bad, 1))):
+        members = [Member("usr/lib/first", contents), Member(f"usr/lib/{SONAME}", kind=tarfile.LNKTYPE, target="./usr/lib/first")]
+        two = [Member("usr/lib/first", good), Member(f"usr/lib/{SONAME}", kind=tarfile.LNKTYPE, target="usr/lib/first")]
+        before = hostile_deb(tmp_path / f"old{number}.deb", two)
+        ended = packages(tmp_path, before, "--", hostile_deb(tmp_path / f"new{number}.deb", members))
+        assert ended.status == status and ended.out.splitlines()[-1].startswith("2 libraries: 2 "), ended
+
+
+def test_hard_links_in_an_rpm_have_the_contents_of_the_last_one(build: Build, tmp_path: Path) -> None:
+    made = []
+    for name, text in (("old", FIRST), ("new", CHANGED)):
+        folder = tmp_path / f"{name}.tree/usr/lib"
+        folder.mkdir(parents=True)
+        library = build(f"{name}.so", text, soname=SONAME)
+        (folder / "a.so").write_bytes(library.read_bytes())
+        (folder / "b.so").hardlink_to(folder / "a.so")
+        made.append(rpm(tmp_path, name, {}))
+    for sides, status in (((made[0], "--", made[0]), 0), ((made[0], "--", made[1]), 1)):
+        ended = packages(tmp_path, *sides)
+        assert ended.status == status and ended.out.splitlines()[-1].startswith("2 libraries: 2 "), ended
+
+
+def test_a_soname_of_any_bytes_forges_no_line(build: Build, tmp_path: Path) -> None:
+    """A newline, an escape sequence, a character that turns the direction, and bytes that are no UTF-8."""
+    plain = "libshapes-with-a-long-name.so.1"
+    evil = b"x\nyes all\x1b[2J\xff\xe2\x80\xae.so"
+    assert len(evil) < len(plain)
+    hostile = {}
+    for name, text in (("old", FIRST), ("new", CHANGED)):
+        contents = build(f"{name}.so", text, soname=plain).read_bytes()
+        hostile[name] = contents.replace(plain.encode() + b"\0", evil + bytes(len(plain) + 1 - len(evil)))
+    made = [hostile_deb(tmp_path / f"{name}.deb", [Member("usr/lib/x\nyes\x1b[1m.so", contents)]) for name, contents in hostile.items()]
+    for arguments, status in (((made[0], "--", made[1]), 1), ((made[0], "--", made[0]), 0), (("--leave-out", "none", *made[:1], "--", made[1]), 2)):
+        ended = packages(tmp_path, *arguments)
+        assert ended.status == status, ended
+        for line in (ended.out + ended.errors).splitlines():
+            assert line.isascii() and line.isprintable(), line
+        if status != 2:
+            assert ended.out.splitlines()[0].startswith(r"{} x\x0ayes\x20all\x1b[2J\xff\xe2\x80\xae.so: ".format("no" if status else "yes"))
+            assert len(ended.out.splitlines()) == 2
+    for place in (tmp_path / "certificates").iterdir():
+        assert place.name.isascii() and place.name.isprintable() and "/" not in place.name
+
+
+def rules_deb(path: Path, library: bytes, *members: Member) -> Path:
+    """A package of a library and of a rule file."""
+    return hostile_deb(path, [Member(f"usr/lib/{SONAME}", library), *members])
+
+
+def test_a_rule_file_is_one_of_the_package(old: Path, bad: bytes, tmp_path: Path) -> None:
+    rules = b"[suppress_function]\nname = call\n"
+    outside = tmp_path / "abi.rules"
+    outside.write_bytes(rules)
+    place = "usr/share/doc/p/abi.rules"
+    bomb = gzip.compress(bytes(64 << 20))
+    for number, (members, words) in enumerate((
+            ([link(place, str(outside))], "leads to no rule file in the package"),
+            ([link(f"{place}.gz", "/dev/zero")], "leads to no rule file in the package"),
+            ([link("usr/share/doc/p", str(tmp_path))], None),
+            ([Member(place, kind=tarfile.FIFOTYPE)], "leads to no rule file"),
+            ([Member(f"{place}.gz", bomb)], "more than 1048576 bytes"),
+            ([Member(place, b"#" * (2 << 20))], "leads to no rule file"),
+            ([Member(f"{place}.gz", gzip.compress(rules)[:-4])], "cannot be inflated"),
+            ([Member(place, rules), Member("usr/share/doc/q/abi.rules", rules)], "several rule files"))):
+        ended = packages(tmp_path, old, "--", rules_deb(tmp_path / f"new{number}.deb", bad, *members))
+        if words is None:
+            assert ended.status == 1, ended
+        else:
+            assert ended.status == 2 and ended.out.startswith(f"cannot tell {SONAME}: ") and words in ended.out, ended
+    linked = [link(place, "../q/abi.rules"), Member("usr/share/doc/q/more/abi.rules", rules)]
+    ended = packages(tmp_path, old, "--", rules_deb(tmp_path / "linked.deb", bad, *linked[:1], Member("usr/share/q/abi.rules", rules)))
+    assert ended.status == 2, ended
+
+
+def peak(arguments: list[object]) -> tuple[int, int, str]:
+    """The status of `abi-packages`, its peak memory in megabytes, that of its steps included, and what it printed."""
+    command = ["/usr/bin/time", "--quiet", "--format=%M", str(TOOLS / "abi-packages"), *map(str, arguments)]
+    ended = run(*command)
+    return ended.status, int(ended.errors.splitlines()[-1]) // 1024, ended.out + ended.errors
+
+
+@pytest.mark.parametrize("way, compressor", ((".gz", "gzip -1"), (".xz", "xz -0"), (".zst", "zstd -q --ultra --long=31")))
+def test_a_bomb_is_refused_or_costs_no_memory(old: Path, tmp_path: Path, way: str, compressor: str) -> None:
+    """A file of 600 MB that is no library, one of 2 GB that may be one, and a window of zstd that asks for 2 GB of memory."""
+    for name, start, size in (("text", "", 600 << 20), ("elf", "\\177ELF", 2 << 30)):
+        (tmp_path / "head").write_bytes(tar([Member("usr/lib/zeros", size=size)])[:512])
+        zeros = (600 << 20) + 1024 - (4 if start else 0)
+        done("sh", "-c", f"(cat head; printf '{start}'; head -c {zeros} /dev/zero) | {compressor} >bomb", folder=tmp_path)
+        new = packed(tmp_path / f"{name}.deb", (f"data.tar{way}", (tmp_path / "bomb").read_bytes()))
+        assert new.stat().st_size < 3 << 20
+        status, megabytes, said = peak(["--certificates", tmp_path / "kept", old, "--", new])
+        assert status in (1, 2) and megabytes < 400 and "Traceback" not in said, (status, megabytes, said)
+        if way != ".zst":
+            assert status == (2 if start else 1), said
+
+
+def test_a_file_that_is_too_large_is_named(old: Path, good: bytes, tmp_path: Path) -> None:
+    """A library of 300 MB gets `cannot tell` with its size; the other one of its package is judged."""
+    large = good + bytes(300 << 20)
+    new = packed(tmp_path / "new.deb", ("data.tar.gz", gzip.compress(tar([Member(f"usr/lib/{SONAME}", large)]), 1)))
+    ended = packages(tmp_path, old, "--", new)
+    assert ended.status == 2 and f"it has {len(large)} bytes, and abi reads no file of more than 268435456 bytes" in ended.out, ended
+
+
+def test_programs_and_damaged_files_beside_a_library(good: bytes, tmp_path: Path) -> None:
+    """A program without section headers, one of 32 bits, a damaged file, and a library for another machine."""
+    program = tmp_path / "program"
+    (tmp_path / "main.c").write_text("int main(void) { return 0; }\n")
+    done("gcc", "-o", program, tmp_path / "main.c")
+    bare = bytearray(program.read_bytes())
+    bare[40:48] = bytes(8)
+    bare[58:64] = bytes(6)
+    other = bytearray(good)
+    other[18] = 183
+    members = [Member(f"usr/lib/{SONAME}", good), Member("usr/bin/bare", bytes(bare)), Member("usr/lib/arm/libarm.so", bytes(other))]
+    made = hostile_deb(tmp_path / "one.deb", members)
+    ended = packages(tmp_path, made, "--", made)
+    assert ended.status == 0 and ended.out.splitlines() == [
+        ended.out.splitlines()[0], "left out usr/lib/arm/libarm.so: it is not for x86-64 with 64 bits",
+        "2 libraries: 1 left out, 1 yes"], ended
+    damaged = hostile_deb(tmp_path / "two.deb", [Member(f"usr/lib/{SONAME}", good[:200]), Member("usr/lib/libother.so", good[:30])])
+    ended = packages(tmp_path, made, "--", damaged)
+    assert ended.status == 2 and "gone" not in ended.out, ended
+    assert [line.split(":")[0] for line in ended.out.splitlines()[:3]] == [
+        f"cannot tell {SONAME}", "cannot tell usr/lib/libother.so", f"cannot tell usr/lib/{SONAME}"], ended
+
+
+def test_a_library_without_section_headers_is_seen(old: Path, good: bytes, tmp_path: Path) -> None:
+    """The loader needs none; `abi` does."""
+    bare = bytearray(good)
+    bare[40:48] = bytes(8)
+    bare[58:64] = bytes(6)
+    ended = packages(tmp_path, old, "--", hostile_deb(tmp_path / "new.deb", [Member(f"usr/lib/{SONAME}", bytes(bare))]))
+    assert ended.status == 2 and ended.out.startswith(f"cannot tell {SONAME}: "), ended
+
+
+def test_a_run_that_is_ended_ends_its_steps(old: Path, tmp_path: Path, monkeypatch: pytest.MonkeyPatch) -> None:
+    """`abi` waits for ever; the tool gets a signal: nothing that it started goes on, and its folder is gone."""
+    temporary = tmp_path / "temporary"
+    temporary.mkdir()
+    waiting = tmp_path / "waiting_abi"
+    waiting.write_text(f"#!/bin/sh\necho $$ >{tmp_path}/process\nsleep 1000\n")
+    waiting.chmod(0o755)
+    environment = {**os.environ, "ABI": str(waiting), "TMPDIR": str(temporary)}
+    for number in (signal.SIGTERM, signal.SIGINT, signal.SIGHUP):
+        process = subprocess.Popen([TOOLS / "abi-packages", "--certificates", tmp_path / "kept", old, "--", old], env=environment,
+                                   stdout=subprocess.PIPE, stderr=subprocess.PIPE)
+        place = tmp_path / "process"
+        until = time.monotonic() + 30
+        while not (place.exists() and place.read_text().strip()) and time.monotonic() < until:
+            time.sleep(0.05)
+        started = int(place.read_text())
+        process.send_signal(number)
+        out, errors = process.communicate(timeout=30)
+        assert process.returncode == 128 + number and out == b"" and b"Traceback" not in errors, errors
+        assert list(temporary.iterdir()) == []
+        assert not Path(f"/proc/{started}").exists() or Path(f"/proc/{started}/stat").read_text().split()[2] == "Z"
+        place.unlink()
+
+
+@pytest.mark.parametrize("text, words", (
+    ("kill -9 $$", "the signal SIGKILL ended it: perhaps the machine ran out of memory"), ("kill -SEGV $$", "the signal SIGSEGV ended it"),
+    ("kill -XCPU $$", "it took more than its limit of processor time"), ("kill -9 $PPID", "the signal SIGKILL ended it"),
+    ("while :; do :; done", "it took more than its limit of processor time"), ("exit 77", "abi ended with status 77"),
+    ("exec /usr/bin/python3 -c 'bytes(3 << 30)'", "MemoryError")))
+def test_what_ended_abi_is_told(old: Path, tmp_path: Path, monkeypatch: pytest.MonkeyPatch, text: str, words: str) -> None:
+    program = tmp_path / "abi"
+    program.write_text(f"#!/bin/sh\n{text}\n")
+    program.chmod(0o755)
+    monkeypatch.setenv("ABI", str(program))
+    ended = packages(tmp_path, "--seconds", "1", "--memory", "500", old, "--", old)
+    assert ended.status == 2 and ended.out.startswith(f"cannot tell {SONAME}: ") and words in ended.out, ended
+
+
+def test_wrong_arguments_have_their_own_status(old: Path, tmp_path: Path) -> None:
+    for arguments in ([], [old], [old, "--"], ["--", old], [old, "--", old, "--rules", "x"], ["--require-types", "101", old, "--", old],
+                      ["--workers", "0", old, "--", old], ["--only", "what", old, "--", old], ["--unknown", old, "--", old]):
+        ended = script("abi-packages", *arguments)
+        assert ended.status == 64 and ended.out == "" and "usage: abi-packages" in ended.errors, ended
+    assert script("abi-gate", "one").status == 64
+
+
+def test_the_limits_are_listed() -> None:
+    ended = script("abi-packages", "--limits")
+    assert ended.status == 0 and "268,435,456 bytes" in ended.out and len(ended.out.splitlines()) > 8, ended
+
+
+def test_a_closed_pipe_is_no_answer(old: Path, tmp_path: Path) -> None:
+    ended = run("bash", "-c", f"set -o pipefail; {TOOLS}/abi-packages --certificates {tmp_path}/kept {old} -- {old} | true; "
+                              "echo ${PIPESTATUS[0]}")
+    assert ended.out.strip() != "1" and "Traceback" not in ended.errors, ended
+
+
+def test_a_fault_of_the_tool_is_no_answer(old: Path, tmp_path: Path, monkeypatch: pytest.MonkeyPatch) -> None:
+    """An exception that nobody expected ends with 2 and a sentence; Python would end with 1, which means no."""
+    monkeypatch.setattr("abi_tools.packages_command.pairs", lambda *_: 1 / 0)
+    ended = packages(tmp_path, old, "--", old)
+    assert ended.status == 2 and ended.errors == "abi-packages: a fault of this tool: ZeroDivisionError: division by zero\n", ended
+    monkeypatch.undo()
+    monkeypatch.setattr("abi_tools.package_sides.pairs_of", lambda *_: [])
+    ended = packages(tmp_path, old, "--", old)
+    assert ended.status == 2 and f"usr/lib/{SONAME} was seen and not judged" in ended.errors, ended
+
+
+def test_a_package_is_read_once(old: Path, tmp_path: Path) -> None:
+    """It may stand on both sides, under two names."""
+    again = tmp_path / "again.deb"
+    again.hardlink_to(old)
+    assert packages(tmp_path, old, "--", again).status == 0
+
+
+def test_lines_are_in_order_and_chosen(build: Build, tmp_path: Path) -> None:
+    """No, gone, cannot tell, yes; the last line names what is no yes."""
+    sides: dict[str, list[Member]] = {"old": [], "new": []}
+    texts = {"a-yes": (FIRST, FIRST), "b-untold": (FIRST, FIRST), "c-no": (FIRST, CHANGED), "d-gone": (SECOND, ""), "e-new": ("", SECOND)}
+    for name, pair in texts.items():
+        for side, text in zip(sides, pair):
+            if text:
+                options = ("-g0",) if "untold" in name else ("-g",)
+                library = build(f"{side}-{name}.so", text, *options, soname=f"lib{name}.so.1")
+                sides[side].append(Member(f"usr/lib/lib{name}.so.1", library.read_bytes()))
+    made = [hostile_deb(tmp_path / f"{side}.deb", members) for side, members in sides.items()]
+    ended = packages(tmp_path, made[0], "--", made[1])
+    assert ended.status == 1 and [line.split(":")[0] for line in ended.out.splitlines()] == [
+        "no libc-no.so.1", "gone libd-gone.so.1", "cannot tell libb-untold.so.1", "yes liba-yes.so.1", "new libe-new.so.1",
+        "5 libraries"], ended
+    last = "5 libraries: 1 cannot tell, 1 gone, 1 new, 1 no, 1 yes; not yes: libc-no.so.1, libd-gone.so.1, libb-untold.so.1"
+    assert ended.out.splitlines()[-1] == last
+    ended = packages(tmp_path, "--only", "no", made[0], "--", made[1])
+    assert [line.split(":")[0] for line in ended.out.splitlines()] == ["no libc-no.so.1", "gone libd-gone.so.1", "5 libraries"]
+    assert packages(tmp_path, "--quiet", made[0], "--", made[1]).out == last + "\n"
+
+
+def test_a_library_that_moved_out_of_what_the_loader_searches_is_no_yes(old: Path, good: bytes, bad: bytes, tmp_path: Path) -> None:
+    for name, contents, status in (("good", good, 2), ("bad", bad, 1)):
+        new = hostile_deb(tmp_path / f"{name}.deb", [Member(f"usr/lib/private/{SONAME}", contents)])
+        ended = packages(tmp_path, old, "--", new)
+        assert ended.status == status and "old in usr/lib, new in usr/lib/private" in ended.out, ended
+    assert "usr/lib/private, which it searches only if" in packages(tmp_path, old, "--", tmp_path / "good.deb").out
+
+
+def test_a_library_for_better_processors_is_compared_with_what_it_replaces(old: Path, good: bytes, bad: bytes, tmp_path: Path) -> None:
+    better = f"usr/lib/glibc-hwcaps/x86-64-v3/{SONAME}"
+    for name, contents, status in (("good", good, 0), ("bad", bad, 1)):
+        new = hostile_deb(tmp_path / f"{name}.deb", [Member(f"usr/lib/{SONAME}", good), Member(better, contents)])
+        assert packages(tmp_path, old, "--", new).status == status
+        assert packages(tmp_path, new, "--", old).status == status
+
+
+def test_a_library_without_exports_has_nothing_that_breaks(build: Build, tmp_path: Path) -> None:
+    library = build("empty.so", "static int nothing;\n", "-g", "-nostdlib", soname="libempty.so.1")
+    made = deb(tmp_path, "empty", {f"{LIBRARIES}/libempty.so.1": library})
+    ended = packages(tmp_path, made, "--", made)
+    assert ended.status == 0 and ended.out.startswith("yes libempty.so.1: the old library has no exports"), ended

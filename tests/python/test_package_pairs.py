@@ -1,0 +1,76 @@
+"""The table of docs/PACKAGES.md that says which library is compared with which one: each of its rows is a test."""
+
+from __future__ import annotations
+
+import re
+from pathlib import Path
+from typing import Iterator, Sequence
+
+import pytest
+from conftest import ROOT
+
+from abi_tools.found_libraries import PackagedLibrary, Unreadable
+from abi_tools.package_judging import file_names
+from abi_tools.package_trees import Tree
+from abi_tools.pairing import Pair, pairs_of, with_unreadable
+from abi_tools.unpacking import Package
+
+_PAGE = ROOT / "docs" / "PACKAGES.md"
+_SONAME = "libx.so.1"
+_PACKAGE = Package(Path("package.deb"), Tree())
+_NAME = re.compile(r"(damaged )?`([^`]+)`")
+
+
+def rows() -> Iterator[tuple[str, str, str]]:
+    """The rows of the table."""
+    text = _PAGE.read_text()
+    start = text.index("| Old | New | Answer |")
+    for line in text[start:text.index("\n\n", start)].splitlines()[2:]:
+        old, new, answer = (cell.strip() for cell in line.strip("|").split("|"))
+        yield old, new, answer
+
+
+def side(cell: str) -> tuple[list[PackagedLibrary], list[Unreadable]]:
+    """The libraries of a cell, and the files that cannot be read."""
+    libraries, unreadable = [], []
+    for damaged, short in _NAME.findall(cell):
+        name = short.replace("/H/", "/glibc-hwcaps/")
+        if damaged:
+            unreadable.append(Unreadable(name, _PACKAGE, "it is damaged"))
+        else:
+            libraries.append(PackagedLibrary(name, Path(name), _SONAME, _PACKAGE))
+    return libraries, unreadable
+
+
+def said(pair: Pair, old: Sequence[PackagedLibrary], new: Sequence[PackagedLibrary]) -> str:
+    """A pair in the words of the table."""
+    first = None if pair.old is None else old.index(pair.old) + 1
+    second = None if pair.new is None else new.index(pair.new) + 1
+    if first is None and second is None:
+        return "1 cannot tell" if pair.trouble.startswith("in the old packages") else "1 cannot tell new"
+    if pair.trouble:
+        return f"{first} cannot tell" if second is None else f"{second} cannot tell new"
+    if first is None or second is None:
+        return f"{first} gone" if second is None else f"{second} new"
+    return f"{first} with {second}{', no yes' if pair.doubt else ''}"
+
+
+@pytest.mark.parametrize("row", rows(), ids=lambda row: f"{row[0]} to {row[1]}".replace("`", ""))
+def test_each_row_of_the_page_is_what_is_compared(row: tuple[str, str, str]) -> None:
+    (old, old_unreadable), (new, new_unreadable) = side(row[0]), side(row[1])
+    found = with_unreadable(pairs_of(old, new), old_unreadable, new_unreadable)
+    assert sorted(said(pair, old, new) for pair in found) == sorted(re.split(r", (?=\d)", row[2])), found
+    names = [pair.name for pair in found]
+    assert len(set(names)) == len(names) == len(set(file_names(found)))
+
+
+def test_the_table_has_rows() -> None:
+    assert len(list(rows())) >= 20
+
+
+def test_names_on_this_machine_are_safe() -> None:
+    names = ["../../x", "..", ".", "", "a/b", "a_b", "A_B", "-rf", "x" * 300, "\udcff\n", "x" * 299]
+    made = file_names([Pair(name, None, None) for name in names])
+    assert len({name.lower() for name in made}) == len(names)
+    for name in made:
+        assert re.fullmatch(r"[A-Za-z0-9_+][A-Za-z0-9._+-]*", name) and len(name) < 200, name

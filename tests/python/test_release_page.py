@@ -1,0 +1,137 @@
+"""The page of `abi-release`: its lines are there without scripts, in the order that a reader needs, escaped, and all are printed."""
+
+from __future__ import annotations
+
+import html
+import os
+import re
+import shutil
+import subprocess
+from collections import Counter
+from pathlib import Path
+from typing import Any, Iterator
+
+import pytest
+from abi_release.pages import write_page
+from abi_release.tables import text_of
+
+Json = dict[str, Any]
+# How many lines are printed.
+_PRINTED = int(os.environ.get("PRINTED_LINES", "3000"))
+HEAD = {"old": "old", "new": "new", "rules_file": "abi.rules"}
+
+
+class Lines:
+    """A table of these lines."""
+
+    def __init__(self, lines: list[Json]) -> None:
+        self._lines = lines
+        self.counts = Counter(line["answer"] for line in lines)
+
+    def lines(self) -> Iterator[Json]:
+        """The lines."""
+        return iter(self._lines)
+
+    def summary(self) -> str:
+        """How many lines there are."""
+        return f"{len(self._lines)} lines"
+
+
+def line(number: int, answer: str = "yes", **more: Any) -> Json:
+    """A line."""
+    return {"package": f"libmade{number}", "library": f"libmade{number}.so.1", "answer": answer,
+            "versions": {"old": f"1.{number}", "new": f"2.{number}"}, **more}
+
+
+def written(folder: Path, lines: list[Json]) -> str:
+    """The page of these lines."""
+    with (folder / "index.html").open("w", encoding="utf-8") as stream:
+        write_page(Lines(lines), HEAD, stream)  # type: ignore[arg-type]
+    return (folder / "index.html").read_text("utf-8")
+
+
+SOME = [
+    line(1, compared=3, typed=2, certificate="results/a b.cert", measured={"seconds": 1, "megabytes": 2}),
+    line(2, "cannot tell", reason="old has no debug information", rule_file={"of": "new", "name": "usr/share/doc/a/abi.rules"}),
+    line(3, "no", breaks={"L2": 3}, report="results/3.report", rule_file={"of": "run"},
+         hit=[{"package": "hit", "depends": True, "exports": [], "imports": 0, "rebuilt": False}]),
+    line(4, "gone"), line(5, "new", versions={"old": None, "new": "7"}),
+    line(6, "cannot tell", library=None, reason="no space", tries=2),
+]
+
+
+def test_the_order_and_what_a_line_says(tmp_path: Path) -> None:
+    page = written(tmp_path, SOME)
+    rows = re.findall(r"<tr class=.*?(?=<tr|</tbody>)", page, re.DOTALL)
+    texts = [" ".join(html.unescape(re.sub(r"<[^>]*>", " ", row)).split()) for row in rows]
+    assert [text.partition(" libmade")[0] for text in texts] == ["no", "gone", "cannot tell", "cannot tell", "new", "yes"]
+    assert texts[0] == "no libmade3 1.3 → 2.3 libmade3.so.1 L2 3 rule file: that of the run report 1 package hit, depends, not rebuilt"
+    assert texts[2] == ("cannot tell libmade2 1.2 → 2.2 libmade2.so.1 old has no debug information "
+                        "rule file: usr/share/doc/a/abi.rules of the new package")
+    assert texts[3] == "cannot tell libmade6 1.6 → 2.6 no space (tried 2 times; the next run tries again)"
+    assert texts[4] == "new libmade5 none → 7 libmade5.so.1"
+    assert 'href="results/a%20b.cert"' in page and 'href="results/3.report"' in page and "http" not in page
+    assert "Rule file: abi.rules" in page
+
+
+def test_the_text_of_a_line() -> None:
+    assert text_of(SOME[1]) == ("cannot tell libmade2 libmade2.so.1: old has no debug information; version 1.2 to 2.2; "
+                                "rule file usr/share/doc/a/abi.rules of the new package")
+    assert text_of(SOME[3]) == "gone libmade4 libmade4.so.1: version 1.4 to 2.4"
+    assert text_of(SOME[5]) == "cannot tell libmade6: no space, tried 2 times; version 1.6 to 2.6"
+
+
+HOSTILE = "</script><img src=x onerror=alert(1)>\n\x1b[31m\u202e\udcff\\"
+
+
+def test_hostile_names(tmp_path: Path) -> None:
+    """A name can't be HTML, drive a terminal, turn the direction of text, or forge a line."""
+    one = line(1, "no", breaks={HOSTILE: 1}, report=f"results/{HOSTILE}", rule_file={"of": "old", "name": HOSTILE},
+               hit=[{"package": HOSTILE, "depends": True, "exports": [HOSTILE], "imports": 1, "rebuilt": False}])
+    one.update(package=HOSTILE, library=HOSTILE, versions={"old": HOSTILE, "new": HOSTILE})
+    other = {**line(2, "cannot tell", reason=HOSTILE, tries=1), "library": HOSTILE}
+    with (tmp_path / "index.html").open("w", encoding="utf-8") as stream:
+        write_page(Lines([one, other]), {"old": HOSTILE, "new": HOSTILE, "rules_file": HOSTILE}, stream)  # type: ignore[arg-type]
+    page = (tmp_path / "index.html").read_text("utf-8")
+    assert "<img" not in page and page.count("</script>") == 1
+    assert not re.search("[\x00-\x09\x0b-\x1f\x7f-\x9f\u200b-\u200f\u202a-\u202e\u2066-\u2069\ud800-\udfff]", page)
+    for text in map(text_of, (one, other)):
+        assert text.isprintable() and "\u202e" not in text
+
+
+def many(count: int) -> list[Json]:
+    """Lines of each kind."""
+    answers = ("yes",) * 7 + ("no", "cannot tell", "gone")
+    return [line(number, answers[number % 10], **({"reason": "no types"} if number % 10 == 8 else {})) for number in range(count)]
+
+
+def chromium(folder: Path, *options: str) -> subprocess.CompletedProcess[bytes]:
+    """Runs a browser without a window."""
+    if shutil.which("chromium") is None:
+        pytest.skip("there is no chromium")
+    command = ["chromium", "--headless", "--no-sandbox", "--disable-gpu", f"--user-data-dir={folder / 'browser'}", *options]
+    return subprocess.run(command, capture_output=True, check=True, timeout=900)
+
+
+def test_all_lines_are_printed(tmp_path: Path) -> None:
+    """In a browser, which takes minutes for 30,000 lines."""
+    if shutil.which("pdftotext") is None:
+        pytest.skip("there is no pdftotext")
+    written(tmp_path, many(_PRINTED))
+    pdf = tmp_path / "all.pdf"
+    chromium(tmp_path, f"--print-to-pdf={pdf}", "--no-pdf-header-footer", (tmp_path / "index.html").as_uri())
+    text = subprocess.run(["pdftotext", "-layout", pdf, "-"], capture_output=True, text=True, check=True).stdout
+    assert len(set(re.findall(r"\blibmade(\d+)\b(?!\.so)", text))) == _PRINTED
+
+
+def test_the_filter_in_the_address(tmp_path: Path) -> None:
+    """Words, answers and the order of lines."""
+    written(tmp_path, many(600))
+    for hash_, wanted in (("find=libmade7&answer=no", {"libmade7", "libmade77"}), ("libmade599", {"libmade599"}), ("answer=gone,no", None)):
+        page = chromium(tmp_path, "--dump-dom", f"{(tmp_path / 'index.html').as_uri()}#{hash_}").stdout.decode()
+        rows = [row for row in re.findall(r"<tr class=.*?</tr>", page, re.DOTALL) if ' hidden=""' not in row.partition(">")[0]]
+        found = {re.findall(r"libmade\d+", row)[0] for row in rows}
+        assert found == wanted or wanted is None and len(found) == 120, found
+    page = chromium(tmp_path, "--dump-dom", f"{(tmp_path / 'index.html').as_uri()}#sort=-1").stdout.decode()
+    names = [re.findall(r"libmade\d+", row)[0] for row in re.findall(r"<tr class=.*?</tr>", page, re.DOTALL)]
+    assert len(names) == 600 and names == sorted(names, reverse=True)

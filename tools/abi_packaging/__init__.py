@@ -1,0 +1,1 @@
+"""Makes packages of an installation of `abi`."""

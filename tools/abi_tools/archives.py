@@ -1,0 +1,128 @@
+"""The members of the archives in packages, as libarchive reads them. Nothing is placed on the disk, and no name is opened."""
+
+from __future__ import annotations
+
+import ctypes
+import enum
+import logging
+import stat
+from typing import Iterator, NamedTuple, Optional
+
+from libarchive import ffi
+from libarchive.exception import ArchiveError
+
+from abi_tools.faults import Fault
+
+# libarchive's Python binding would print warnings of its own; each of them is a fault here.
+logging.getLogger("libarchive").addHandler(logging.NullHandler())
+logging.getLogger("libarchive").propagate = False
+
+_PIECE = 1 << 16
+_FORMAT_PAX = (0x30002, 0x30003)
+_format = ffi.libarchive.archive_format
+_format.argtypes = [ctypes.c_void_p]
+_sparse_parts = ffi.libarchive.archive_entry_sparse_reset
+_sparse_parts.argtypes = [ctypes.c_void_p]
+
+
+class Kind(enum.Enum):
+    """What a member of an archive is."""
+
+    FILE = enum.auto()
+    FOLDER = enum.auto()
+    LINK = enum.auto()
+    HARD_LINK = enum.auto()
+    OTHER = enum.auto()
+
+
+class Member(NamedTuple):
+    """A member: its name, its kind, the size of its contents, and the target of a link. Bytes of names that are no UTF-8 are surrogates
+    (PEP 383)."""
+
+    name: str
+    kind: Kind
+    size: int
+    target: str
+
+
+class Archive:
+    """An archive, `tar` or `cpio`, whose bytes come in pieces. `file` is the package that faults name."""
+
+    def __init__(self, pieces: Iterator[bytes], form: str, file: object) -> None:
+        self._pieces = pieces
+        self._form = form
+        self._file = file
+        self._failed: Optional[BaseException] = None
+        self._piece = b""
+        self._buffer = ctypes.create_string_buffer(_PIECE)
+        self._archive: Optional[int] = None
+
+    def members(self) -> Iterator[Member]:
+        """The members in order; `read` reads the contents of the last one. Raises a fault if the archive is damaged, or has what dpkg
+        refuses: headers of pax, and sparse files. At the end all pieces were read, so that their decompressor has checked them."""
+        archive, entry = ffi.read_new(), ffi.entry_new()
+        # ctypes keeps no reference to a function that C calls.
+        calls = ffi.OPEN_CALLBACK(ffi.VOID_CB), ffi.READ_CALLBACK(self._next_piece), ffi.CLOSE_CALLBACK(ffi.VOID_CB)
+        try:
+            self._archive = archive
+            getattr(ffi, f"read_support_format_{self._form}")(archive)
+            self._checked(ffi.read_open, archive, None, *calls)
+            while self._checked(ffi.read_next_header2, archive, entry) != ffi.ARCHIVE_EOF:
+                yield self._member(archive, entry)
+            for _ in self._pieces:
+                pass
+        finally:
+            self._archive = None
+            ffi.entry_free(entry)
+            ffi.read_free(archive)
+
+    def read(self, size: int) -> bytes:
+        """The next bytes of the contents of the member, at most `size`; fewer at its end."""
+        parts = []
+        while size > 0:
+            count = self._checked(ffi.read_data, self._archive, self._buffer, min(size, _PIECE))
+            if not count:
+                break
+            parts.append(self._buffer.raw[:count])
+            size -= count
+        return b"".join(parts)
+
+    def _next_piece(self, _archive: int, _context: int, place: int) -> int:
+        """Hands the next piece to libarchive. An exception must not leave this function, since C calls it."""
+        try:
+            self._piece = next(self._pieces, b"")
+        except BaseException as error:  # pylint: disable=broad-except
+            self._failed = error
+            return -1
+        ctypes.cast(place, ctypes.POINTER(ctypes.c_char_p))[0] = self._piece
+        return len(self._piece)
+
+    def _checked(self, function: object, *arguments: object) -> int:
+        """What a function of libarchive returns. Raises a fault for an error and for a warning."""
+        try:
+            result: int = function(*arguments)  # type: ignore[operator]
+        except ArchiveError as error:
+            if self._failed is not None:
+                raise self._failed from error
+            raise Fault(f"{self._file} is damaged: {error.msg or 'it is no archive'}") from error
+        if result < 0:
+            raise Fault(f"{self._file} is damaged: {_text(ffi.error_string(arguments[0]))}")
+        return result
+
+    def _member(self, archive: int, entry: int) -> Member:
+        name = _text(ffi.entry_pathname(entry))
+        if _format(archive) in _FORMAT_PAX or _sparse_parts(entry) > 0:
+            raise Fault(f"{self._file} has a header of pax or a sparse file, which dpkg refuses: {name}")
+        hard, soft = ffi.entry_hardlink(entry), ffi.entry_symlink(entry)
+        if hard is not None:
+            kind = Kind.HARD_LINK
+        else:
+            kind = _KINDS.get(stat.S_IFMT(ffi.entry_filetype(entry)), Kind.OTHER)
+        return Member(name, kind, ffi.entry_size(entry), _text(soft if hard is None else hard))
+
+
+_KINDS = {stat.S_IFREG: Kind.FILE, stat.S_IFDIR: Kind.FOLDER, stat.S_IFLNK: Kind.LINK}
+
+
+def _text(name: Optional[bytes]) -> str:
+    return (name or b"").decode("utf-8", "surrogateescape")

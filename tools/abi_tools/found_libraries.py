@@ -1,0 +1,148 @@
+"""Which files of a package are libraries, and what is left out. Whether a file is a library is what the loader reads of it; what `abi`
+reads, its sections, must say the same."""
+
+from __future__ import annotations
+
+from dataclasses import dataclass, field
+from pathlib import Path, PurePosixPath
+from typing import Optional
+
+from abi_tools.debug_files import DEBUG_FOLDER
+from abi_tools.elf_files import SHT_DYNSYM, SHT_NOBITS, ElfFile
+from abi_tools.faults import Fault
+from abi_tools.limits import LARGEST_FILE
+from abi_tools.loader_views import LoaderView, header_of, loader_view
+from abi_tools.package_trees import File
+from abi_tools.shown import name_shown
+from abi_tools.unpacking import Package
+
+_SHARED = ".so"
+_DEBUG = f"{str(DEBUG_FOLDER).lstrip('/')}/"
+
+
+@dataclass(frozen=True, eq=False)
+class PackagedLibrary:
+    """A library of a package: its name in the package, with links of folders followed; its file on this machine; its soname (or else
+    its file name); the package; and why `abi` cannot read it, if that is known."""
+
+    name: str
+    path: Path
+    soname: str
+    package: Package
+    trouble: str = ""
+
+    @property
+    def folder(self) -> str:
+        """Its folder in the package."""
+        return self.name.rpartition("/")[0]
+
+    @property
+    def file_name(self) -> str:
+        """Its file name."""
+        return self.name.rpartition("/")[2]
+
+
+@dataclass(frozen=True)
+class Unreadable:
+    """A file that may be a library, and cannot be read: its name in the package, the package, and the reason."""
+
+    name: str
+    package: Package
+    reason: str
+
+
+@dataclass(frozen=True)
+class LeftOut:
+    """A library that is not judged: its name in the package, and the reason."""
+
+    name: str
+    reason: str
+
+
+@dataclass
+class Contents:
+    """What a package brings: libraries, files that may be some, libraries that are left out, and how many other ELF files (programs,
+    objects, debug files). `seen` counts all of them in the list of members."""
+
+    libraries: list[PackagedLibrary] = field(default_factory=list)
+    unreadable: list[Unreadable] = field(default_factory=list)
+    left_out: list[LeftOut] = field(default_factory=list)
+    others: int = 0
+    seen: int = 0
+
+    def count(self) -> int:
+        """How many files were sorted."""
+        return len(self.libraries) + len(self.unreadable) + len(self.left_out) + self.others
+
+
+def contents_of(package: Package) -> Contents:
+    """Sorts the ELF files of a package. Files in the folder of debug information are none of libraries."""
+    files = [(name, file) for name, file in package.tree.files() if file.is_elf]
+    found = Contents(seen=len(files))
+    for name, file in files:
+        before = found.count()
+        if not name.startswith(_DEBUG):
+            _sort(found, package, name, file)
+        found.others += before == found.count()
+    return found
+
+
+def _sort(found: Contents, package: Package, name: str, file: File) -> None:
+    """Puts a file where it belongs; programs and objects belong nowhere."""
+    if file.kept is None:
+        found.unreadable.append(Unreadable(name, package, file.refused))
+        return
+    header = header_of(file.kept)
+    if header is not None and not header.is_x86_64:
+        if header.is_dynamic and _SHARED in PurePosixPath(name).name:
+            found.left_out.append(LeftOut(name, "it is not for x86-64 with 64 bits"))
+    elif header is None or header.is_dynamic:
+        _sort_dynamic(found, package, name, file.kept)
+
+
+def _sort_dynamic(found: Contents, package: Package, name: str, path: Path) -> None:
+    """The same for a file of type ET_DYN. It is a library if the loader or `abi` sees dynamic symbols in it, and if it has a soname or
+    `.so` in its name."""
+    sections, troubles = _sections_of(path)
+    try:
+        view: Optional[LoaderView] = loader_view(path)
+    except Fault as fault:
+        view, troubles = None, [*troubles, str(fault)]
+    if sections is None and view is None:
+        found.unreadable.append(Unreadable(name, package, "; ".join(troubles)))
+        return
+    if sections is not None and sections.is_debug:
+        return
+    soname = view.soname if view is not None else None
+    if sections is not None and sections.soname is not None and sections.soname != soname:
+        troubles.append("its sections and its segments have different sonames" if soname is not None or view is not None
+                        else "its segments are damaged")
+        soname = soname or sections.soname
+    has_symbols = view is not None and view.has_symbols or sections is not None and sections.has_symbols
+    file_name = PurePosixPath(name).name
+    if has_symbols and (soname or _SHARED in file_name):
+        size = path.stat().st_size
+        if size > LARGEST_FILE:
+            troubles.append(f"it has {size} bytes, and abi reads no file of more than {LARGEST_FILE} bytes")
+        found.libraries.append(PackagedLibrary(name, path, soname or file_name, package, "; ".join(troubles)))
+
+
+@dataclass(frozen=True)
+class _Sections:
+    """What the sections of a file say: its soname, whether it has dynamic symbols, and whether it is a debug file, which has the headers
+    of the library's sections without their bytes."""
+
+    soname: Optional[str]
+    has_symbols: bool
+    is_debug: bool
+
+
+def _sections_of(path: Path) -> tuple[Optional[_Sections], list[str]]:
+    """What the sections say, and why they say nothing."""
+    try:
+        file = ElfFile(path, "it")
+        has_symbols = any(section.kind == SHT_DYNSYM for section in file.sections)
+        empty = any(section.name == ".dynsym" and section.kind == SHT_NOBITS for section in file.sections)
+        return _Sections(file.soname, has_symbols, empty and not has_symbols), []
+    except Fault as fault:
+        return None, [str(fault)]
