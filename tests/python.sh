@@ -11,7 +11,7 @@ tools="/usr/bin/python3 gcc clang readelf objcopy ar strip dwz eu-unstrip eu-elf
 crate=abi_cli
 . "$(dirname "$0")/common.bash"
 
-for module in elftools debian libarchive zstandard yaml pytest distributed jinja2 jsonschema rich cryptography; do
+for module in elftools debian libarchive zstandard yaml pytest xdist distributed jinja2 jsonschema rich cryptography; do
     /usr/bin/python3 -c "import $module" 2>/dev/null && continue
     [ -n "${SKIP_MISSING_TOOLS:-}" ] || fail "there is no $module for /usr/bin/python3 (with SKIP_MISSING_TOOLS=1 nothing runs)"
     told "nothing ran, since there is no $module for /usr/bin/python3"
@@ -21,8 +21,8 @@ done
 (cd "$root" && mypy) >types.log 2>&1 || { tail -n 20 types.log >&2 && fail "the types of the tools"; }
 
 program_of abi_json 64 "${ABI_JSON:-}"
-ABI=$program ABI_JSON=$found /usr/bin/python3 -B -m pytest --quiet --color=no -p no:cacheprovider -rs --basetemp="$work/tests" \
-    "$root/tests/python" >log 2>&1 || { tail -n 60 log >&2 && fail "$(tail -n 1 log)"; }
+ABI=$program ABI_JSON=$found /usr/bin/python3 -B -m pytest --quiet --color=no -p no:cacheprovider -rs --numprocesses="$(nproc)" --dist=loadfile \
+    --basetemp="$work/tests" "$root/tests/python" >log 2>&1 || { tail -n 60 log >&2 && fail "$(tail -n 1 log)"; }
 cat log
 
 # The last line of the log counts the tests; lines before it name what was left out.
