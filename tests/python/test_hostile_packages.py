@@ -3,16 +3,20 @@
 from __future__ import annotations
 
 import gzip
+import locale
 import os
 import signal
 import subprocess
 import tarfile
 import time
 from pathlib import Path
+from typing import Iterator
 
 import pytest
 from conftest import FIRST, SECOND, TOOLS, done, run, script
 from package_support import (CHANGED, LIBRARIES, Build, Member, deb, hostile_deb, installed, link, packages, packed, rpm, tar)
+
+from abi_tools.archives import Archive
 
 SONAME = "libshapes.so.1"
 
@@ -33,6 +37,15 @@ def bad(build: Build) -> bytes:
 def old(good: bytes, tmp_path: Path) -> Path:
     """A package of the good library."""
     return hostile_deb(tmp_path / "old.deb", [Member(f"usr/lib/{SONAME}", good)])
+
+
+@pytest.fixture(params=("C", "C.UTF-8"))
+def any_locale(request: pytest.FixtureRequest) -> Iterator[None]:
+    """Runs a test in each locale: libarchive converts some names to the locale of the process."""
+    before = locale.setlocale(locale.LC_CTYPE)
+    locale.setlocale(locale.LC_CTYPE, request.param)
+    yield
+    locale.setlocale(locale.LC_CTYPE, before)
 
 
 @pytest.mark.parametrize("target", ("{outside}", "../../../../../../../../..{outside}", "..{outside}"))
@@ -106,6 +119,7 @@ def test_two_members_of_one_name_are_refused(old: Path, good: bytes, bad: bytes,
         assert ended.status == 2 and f"two of its members have the name {name}" in ended.errors.replace("./usr//", "usr/"), ended
 
 
+@pytest.mark.usefixtures("any_locale")
 def test_members_that_dpkg_refuses_are_refused(old: Path, good: bytes, tmp_path: Path) -> None:
     name = f"usr/lib/{SONAME}"
     archive = tar([Member(name, good)])
@@ -145,6 +159,25 @@ def test_a_soname_in_two_folders_and_a_merged_system(good: bytes, bad: bytes, tm
     assert ended.status == 0 and ended.out.splitlines()[-1] == "2 libraries: 1 new, 1 yes", ended
 
 
+@pytest.mark.usefixtures("any_locale")
+@pytest.mark.parametrize("name", ("schöne", "a\\b", "\udcff\udcfe", "é" * 120))
+def test_names_in_archives_are_bytes(tmp_path: Path, name: str) -> None:
+    """Those of members and of the targets of links, in each format that dpkg and rpm write."""
+    def read(form: str, contents: bytes) -> list[tuple[str, str]]:
+        return [(one.name, one.target) for one in Archive(iter([contents]), form, "it").members()]
+
+    members = [Member(f"usr/{name}", b"text"), link("usr/soft", name), Member("usr/hard", kind=tarfile.LNKTYPE, target=f"usr/{name}")]
+    names = [(f"usr/{name}", ""), ("usr/soft", name), ("usr/hard", f"usr/{name}")]
+    assert read("tar", tar(members)) == names
+    if len(os.fsencode(name)) < 100:
+        assert read("tar", tar(members, tarfile.USTAR_FORMAT)) == names
+    (tmp_path / name).write_bytes(b"text")
+    (tmp_path / "soft").symlink_to(name)
+    packing = subprocess.run(["bsdtar", "--format=newc", "-cf", "-", name, "soft"], cwd=tmp_path, capture_output=True, check=True)
+    assert read("cpio", packing.stdout) == [(name, ""), ("soft", name)]
+
+
+@pytest.mark.usefixtures("any_locale")
 def test_what_cannot_be_unpacked_has_a_sentence(old: Path, good: bytes, tmp_path: Path) -> None:
     name = f"usr/lib/{SONAME}"
     deep = "/".join(["d"] * 1000)

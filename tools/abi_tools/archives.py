@@ -23,6 +23,9 @@ _format = ffi.libarchive.archive_format
 _format.argtypes = [ctypes.c_void_p]
 _sparse_parts = ffi.libarchive.archive_entry_sparse_reset
 _sparse_parts.argtypes = [ctypes.c_void_p]
+_name_in_utf_8 = ffi.libarchive.archive_entry_pathname_utf8
+_name_in_utf_8.argtypes = [ctypes.c_void_p]
+_name_in_utf_8.restype = ctypes.c_char_p
 
 
 class Kind(enum.Enum):
@@ -67,7 +70,7 @@ class Archive:
             self._archive = archive
             getattr(ffi, f"read_support_format_{self._form}")(archive)
             self._checked(ffi.read_open, archive, None, *calls)
-            while self._checked(ffi.read_next_header2, archive, entry) != ffi.ARCHIVE_EOF:
+            while self._is_next(archive, entry):
                 yield self._member(archive, entry)
             for _ in self._pieces:
                 pass
@@ -97,6 +100,20 @@ class Archive:
         ctypes.cast(place, ctypes.POINTER(ctypes.c_char_p))[0] = self._piece
         return len(self._piece)
 
+    def _is_next(self, archive: int, entry: int) -> bool:
+        """Whether there is another member, whose header is read. A header of pax is refused for what it is: libarchive converts its name
+        from UTF-8 to the locale of this process, and warns where it cannot. All other names stay bytes."""
+        try:
+            return self._checked(ffi.read_next_header2, archive, entry) != ffi.ARCHIVE_EOF
+        except Fault:
+            self._refuse_pax(archive, entry)
+            raise
+
+    def _refuse_pax(self, archive: int, entry: int) -> None:
+        if _format(archive) in _FORMAT_PAX or _sparse_parts(entry) > 0:
+            name = _name_in_utf_8(entry) or ffi.entry_pathname(entry)
+            raise Fault(f"{self._file} has a header of pax or a sparse file, which dpkg refuses: {_text(name)}")
+
     def _checked(self, function: object, *arguments: object) -> int:
         """What a function of libarchive returns. Raises a fault for an error and for a warning."""
         try:
@@ -110,15 +127,13 @@ class Archive:
         return result
 
     def _member(self, archive: int, entry: int) -> Member:
-        name = _text(ffi.entry_pathname(entry))
-        if _format(archive) in _FORMAT_PAX or _sparse_parts(entry) > 0:
-            raise Fault(f"{self._file} has a header of pax or a sparse file, which dpkg refuses: {name}")
+        self._refuse_pax(archive, entry)
         hard, soft = ffi.entry_hardlink(entry), ffi.entry_symlink(entry)
         if hard is not None:
             kind = Kind.HARD_LINK
         else:
             kind = _KINDS.get(stat.S_IFMT(ffi.entry_filetype(entry)), Kind.OTHER)
-        return Member(name, kind, ffi.entry_size(entry), _text(soft if hard is None else hard))
+        return Member(_text(ffi.entry_pathname(entry)), kind, ffi.entry_size(entry), _text(soft if hard is None else hard))
 
 
 _KINDS = {stat.S_IFREG: Kind.FILE, stat.S_IFDIR: Kind.FOLDER, stat.S_IFLNK: Kind.LINK}
