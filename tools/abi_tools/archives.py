@@ -18,6 +18,7 @@ logging.getLogger("libarchive").addHandler(logging.NullHandler())
 logging.getLogger("libarchive").propagate = False
 
 _PIECE = 1 << 16
+_END: int = ffi.ARCHIVE_EOF
 _FORMAT_PAX = (0x30002, 0x30003)
 _format = ffi.libarchive.archive_format
 _format.argtypes = [ctypes.c_void_p]
@@ -104,7 +105,7 @@ class Archive:
         """Whether there is another member, whose header is read. A header of pax is refused for what it is: libarchive converts its name
         from UTF-8 to the locale of this process, and warns where it cannot. All other names stay bytes."""
         try:
-            return self._checked(ffi.read_next_header2, archive, entry) != ffi.ARCHIVE_EOF
+            return self._checked(ffi.read_next_header2, archive, entry) != _END
         except Fault:
             self._refuse_pax(archive, entry)
             raise
