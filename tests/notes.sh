@@ -1,7 +1,7 @@
 #!/usr/bin/env bash
 # Checks the notes of `abi check` on what no rule judges, on small C libraries that gcc and clang build: objects whose qualifiers change,
 # structures that one unit only declares and another one defines, dimensions of open arrays, members in padding, unions without members,
-# and old-style functions.
+# old-style functions, and libraries, versions and symbols that only the new library needs.
 #
 #   tests/notes.sh                    builds the program of this repository
 #   ABI=/path/of/abi tests/notes.sh   uses another one
@@ -226,6 +226,49 @@ sources "a structure without a tag gets another typedef" "gcc clang" \
     'typedef struct { int a; } two; int f(two *p) { return p->a; }'
 echo 'prototype: h: was prototyped, now none' >want
 sources "a function of the old style" "gcc clang" 'int h(int a) { return a; }' 'int h(a) int a; { return a; }'
+
+# ---- what the new library needs of other files
+
+# Two libraries for others to need. The first one has two versions of one name.
+echo 'int low_1(void) { return 1; } int low_2(void) { return 2; } int other(void) { return 3; }
+__asm__(".symver low_1, low@LOW_1"); __asm__(".symver low_2, low@@LOW_2");' >low.c
+echo 'LOW_1 { global: low; other; local: *; }; LOW_2 { } LOW_1;' >low.map
+gcc -g -fPIC -shared -Wl,-soname,liblow.so.1 -Wl,--version-script=low.map -o liblow.so low.c
+echo 'int high(void) { return 1; }' | gcc -g -fPIC -shared -Wl,-soname,libhigh.so.1 -o libhigh.so -x c -
+uses='extern int low(void);'
+
+# needs NAME OLD NEW WORD..: the notes on the libraries of two sources must be those in the file `want`; the words are for linking the
+# new one.
+needs() {
+    name=$1
+    echo "$uses $2" | gcc -g -O0 -fPIC -shared -nostdlib -o old.so -x c - -x none ./liblow.so || fail "gcc refuses the old source of $name"
+    echo "$uses $3" | gcc -g -O0 -fPIC -shared -nostdlib -o new.so -x c - -x none ./liblow.so "${@:4}" || fail "gcc refuses the new source of $name"
+    ABI_NOTES=1 "$program" check old.so new.so >answer 2>errors || fail "$name: the answer is no yes"
+    sed -n '/^abi: note: exports /d; s/^abi: note: //p' errors >got
+    same "$name"
+    passed "$name"
+}
+
+one='int f(void) { return low(); }'
+: >want
+needs "the same needs" "$one" "$one"
+echo "needs library: libhigh.so.1" >want
+needs "one library more" "$one" "$one" -Wl,--no-as-needed ./libhigh.so
+echo "needs library: libhigh.so.1
+needs symbol: high" >want
+needs "one library more, and a symbol of it" "$one" 'extern int high(void); int f(void) { return low() + high() - 1; }' ./libhigh.so
+echo "needs version: LOW_1 of liblow.so.1
+needs symbol: other@LOW_1" >want
+needs "one symbol more, with its version" "$one" 'extern int other(void); int f(void) { return low() + other() - other(); }'
+: >want
+needs "one symbol less" 'extern int other(void); int f(void) { return low() + other() - other(); }' "$one"
+needs "a weak symbol more" "$one" 'extern int none(void) __attribute__((weak)); int f(void) { return none() + low(); }'
+echo "needs symbol: none" >want
+needs "a weak symbol becomes one that must be there" 'extern int none(void) __attribute__((weak)); int f(void) { return none() + low(); }' \
+    'extern int none(void); int f(void) { return none() + low(); }'
+echo "needs version: LOW_2 of liblow.so.1
+needs symbol: low@LOW_2" >want
+needs "a newer version of a library" '__asm__(".symver low, low@LOW_1"); int f(void) { return low(); }' "$one"
 
 # ---- how many exports are compared
 

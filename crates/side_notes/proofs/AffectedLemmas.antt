@@ -150,12 +150,6 @@ row_missing l visits n exports none = ap (notes_by l (path_at visits n) exports)
 
 -- ---- row by row
 
-pub AreRowNotes-none : (l : PlainLibrary) (scope : Scope) (visits : List Visit) (numbers : List ℕ) (notes : List Note) → numbers ≡ [] → notes ≡ [] → AreRowNotes l scope visits numbers notes
-AreRowNotes-none l scope visits numbers notes no_numbers none = record { rows = []; numbered = sym no_numbers; led = λ row there. nothing row there; are = none }
-  where
-    nothing : (row : ℕ × List ℕ) → Contains [] row → LeadToRow scope visits row
-    nothing row (k, lt, is) = absurd (omega (arith, lt))
-
 pub AreRowNotes-more : (l : PlainLibrary) (scope : Scope) (visits : List Visit) (numbers : List ℕ) (notes more : List Note) (k d : ℕ) → k < length numbers → AreRowNotes l scope visits (take k numbers) notes
     → AddsRow l scope visits (get_or numbers k d) notes more → AreRowNotes l scope visits (take (k + 1) numbers) more
 AreRowNotes-more l scope visits numbers notes more k d lt were adds =
@@ -192,15 +186,3 @@ spelled laws s scope visits breaks old_graph new_graph task sound e = record {
       let leads : PathLeadsTo (task_of s) reached.0 comes.0 = subst (λ (t : Task). PathLeadsTo t reached.0 comes.0) task comes.1 in
       subst (λ (p : Path). IsWalk s.old p) same (laws.walks s reached.0 comes.0 old_graph new_graph leads);
 }
-
--- ---- what is explored
-
--- graphs, roots and classes that are those of two libraries
-pub coarse_of : (s : Sides) (old_nodes new_nodes : List PlainNode) (roots : List PlainRoot) (old new : PlainClasses) → old_nodes ≡ s.old.graph → new_nodes ≡ s.new.graph → roots ≡ typed_roots s
-    → IsSound (scope_of s old new) → IsGraph s.old.graph → IsGraph s.new.graph → AreCoarsest old → AreCoarsest new → IsCoarse (scope old_nodes new_nodes roots s.marks old new)
-coarse_of s old_nodes new_nodes roots old new is_old is_new are sound old_graph new_graph old_coarsest new_coarsest =
-    let same : scope_of s old new ≡ scope old_nodes new_nodes roots s.marks old new =
-    ap (λ (ns : List PlainNode). scope ns s.new.graph (typed_roots s) s.marks old new) (sym is_old)
-    ∙ ap (λ (ns : List PlainNode). scope old_nodes ns (typed_roots s) s.marks old new) (sym is_new)
-    ∙ ap (λ (rs : List PlainRoot). scope old_nodes new_nodes rs s.marks old new) (sym are) in
-    subst IsCoarse same (record { sound = sound; graphs = record { old = old_graph; new = new_graph }; old = old_coarsest; new = new_coarsest })

@@ -5,6 +5,7 @@ mod IdleLemmas
 mod LineLemmas
 mod Marked
 mod NameLemmas
+mod NeedLemmas
 mod OldExportLemmas
 mod RuleLemmas
 mod SaidLemmas

@@ -67,6 +67,3 @@ count_more kind notes i note so_far after lt at count is =
     let more : take (i + 1) notes ≡ xs ++ note ∷ [] = take_more notes i note lt ∙ ap (λ (x : Note). xs ++ x ∷ []) (sym at) in
     let one = ap length (first_of_push kind xs note) ∙ length-append (first_of kind xs) (one_more kind (length (first_of kind xs)) note) ∙ count_of_one kind (length (first_of kind xs)) note in
     is ∙ ap (λ n. counted_to kind n note) count ∙ sym (ap (λ (zs : List Note). length (first_of kind zs)) more ∙ one)
-
-pub few_first : (kind : NoteKind) (notes : List Note) (so_far : ℕ) → so_far ≡ length (first_of kind notes) → so_far ≤ 10
-few_first kind notes so_far e = let l = length-take 10 (filter (is_of kind) notes) in omega (arith, e, l)

@@ -7,6 +7,7 @@ pub mod Counts
 pub mod CountsOfFiles
 pub mod Idle
 pub mod Made
+pub mod Needs
 pub mod NoteTexts
 pub mod OldExports
 pub mod Places

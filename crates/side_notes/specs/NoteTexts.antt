@@ -5,7 +5,7 @@ use Rattle.type_notes.specs.Notes.{kind_name}
 use Rattle.type_notes.specs.contracts.note.NoteKindPartialEq.TheImpl.{ghosts}
 use Rattle.type_notes.specs.declared.note.Note.{Note}
 use Rattle.type_notes.specs.declared.note.NoteKind.{NoteKind}
-use Rattle.type_notes.specs.declared.note.NoteKind.TheVariants.{ArrayDimensions, MemberInPadding, UnionWithoutMembers, TagOrName, ParameterName, Qualifiers, Prototype, Endianity, CallingConvention, AddressClass, NoReturn, Packing, EnumeratorSign, DefinedElsewhere, ThreadObject, ObjectQualifiers, ExportAdded, VersionAdded, Successor, AffectedExport, IdleSection}
+use Rattle.type_notes.specs.declared.note.NoteKind.TheVariants.{ArrayDimensions, MemberInPadding, UnionWithoutMembers, TagOrName, ParameterName, Qualifiers, Prototype, Endianity, CallingConvention, AddressClass, NoReturn, Packing, EnumeratorSign, DefinedElsewhere, ThreadObject, ObjectQualifiers, ExportAdded, VersionAdded, Successor, AffectedExport, NeedsLibrary, NeedsVersion, NeedsSymbol, IdleSection}
 
 -- ---- one note
 
@@ -64,7 +64,7 @@ kind_text notes kind = first_lines kind notes ++ rest_line kind (count_by (is_of
 
 -- the kinds, in the order in which they are printed
 unfoldable pub all_kinds : List NoteKind
-all_kinds = AffectedExport ∷ ExportAdded ∷ VersionAdded ∷ ThreadObject ∷ ObjectQualifiers ∷ Successor ∷ IdleSection ∷ ArrayDimensions ∷ MemberInPadding ∷ UnionWithoutMembers ∷ TagOrName ∷ ParameterName ∷ Qualifiers ∷ Prototype ∷ Endianity ∷ CallingConvention ∷ AddressClass ∷ NoReturn ∷ Packing ∷ EnumeratorSign ∷ DefinedElsewhere ∷ []
+all_kinds = AffectedExport ∷ ExportAdded ∷ VersionAdded ∷ ThreadObject ∷ ObjectQualifiers ∷ Successor ∷ NeedsLibrary ∷ NeedsVersion ∷ NeedsSymbol ∷ IdleSection ∷ ArrayDimensions ∷ MemberInPadding ∷ UnionWithoutMembers ∷ TagOrName ∷ ParameterName ∷ Qualifiers ∷ Prototype ∷ Endianity ∷ CallingConvention ∷ AddressClass ∷ NoReturn ∷ Packing ∷ EnumeratorSign ∷ DefinedElsewhere ∷ []
 
 -- the notes of each kind, one kind after another
 abbrev pub note_text : List Note → List ℕ

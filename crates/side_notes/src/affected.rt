@@ -6,13 +6,10 @@ ghost use Rattle.pair_explorer.specs.Explorations.{IsExploration};
 ghost use Rattle.pair_explorer.specs.GraphPairs.{scope_of};
 ghost use Rattle.pair_explorer.specs.Routes.{path_of};
 ghost use Rattle.pair_explorer.specs.Scopes.{IsScope};
-ghost use Rattle.cert_check.specs.Compatible.{task_of};
 ghost use Rattle.leading_exports.specs.Drawing.{all_arrows};
 ghost use Rattle.leading_exports.specs.Walks.{IsWalk};
-ghost use Rattle.pair_compare.specs.BoundPair.{IsBinding, sides_of};
-ghost use Rattle.pair_compare.specs.Marking.{AreMarksOf};
+ghost use Rattle.pair_compare.specs.Compared.{IsComparison, sides_in};
 ghost use Rattle.pair_compare.specs.reports.PathTexts as path_texts;
-ghost use Rattle.pair_compare.specs.reports.TypeFindings.{IsCoarse};
 ghost use Rattle.side_notes.specs.Affected.{AddsRow, AreAffected, AreRowNotes, AreSpelled, as_row, note_beside, note_size, row_notes};
 ghost use Rattle.side_notes.specs.Affected as spec;
 ghost use Rattle.side_notes.specs.NoteTexts.{behind};
@@ -22,18 +19,16 @@ use abi_base::{Effort, Limit, List, NoMemory, taken};
 use abi_types::{Index, Library, NewIx, OldIx};
 use cert_check::library_exports::find_at;
 use leading_exports::{Arrow, Walk, arrows_of, exports_to, numbers_of};
-use pair_compare::laws::typed_pairs_can_be_explored;
+use pair_compare::Compared;
 use pair_compare::reports::laws::paths_end_where_they_lead;
 use pair_compare::reports::{label_at, steps_text};
-use pair_compare::{BoundPair, roots};
 use pair_explorer::laws::{parents_spell_paths, paths_by_representatives};
-use pair_explorer::{Explored, GraphPair, Route, Visits, explore, route_to};
+use pair_explorer::{Explored, GraphPair, Route, Visits, route_to};
 use pair_rules::Steps;
 use std::alloc::Global;
 use std::collections::BTreeSet;
 use std::marker::Brand;
 use std::sync::ledger::{Blank, Ledger};
-use type_classes::{alike, alike_beside};
 use type_notes::{Note, NoteKind};
 
 // ---- two types that break a rule
@@ -339,67 +334,38 @@ fn with_explored<L: Ledger>(
     rows_of(alloc, &ground, rows.as_slice())
 }
 
-// The notes on two libraries, by graphs, roots and classes that are theirs.
-fn with_graphs<L: Ledger>(
-    alloc: Global,
-    pair: &BoundPair,
-    graphs: &GraphPair,
-    steps: &mut Steps<L>,
-) -> Result<List<Note>, NoMemory>
-    requires task { (scope_of graphs.now).task ≡ task_of (sides_of pair.now) }
-    requires coarse { IsCoarse (scope_of graphs.now) }
-    ensures { IfOk result (AreAffected (sides_of pair.now)) }
-{
-    paths_end_where_they_lead();
-    paths_by_representatives();
-    parents_spell_paths();
-    pair.old.graph().known();
-    pair.new.graph().known();
-    let explored = explore(alloc, graphs, steps)?;
-    with_explored(alloc, pair.old, graphs, &explored, steps)
-}
-
-// The notes on two libraries, with a counter of steps.
+// The notes on two libraries that were compared, with a counter of steps.
 fn counted_notes<L: Ledger>(
     alloc: Global,
     blank: Blank,
-    pair: &BoundPair,
+    compared: &Compared,
 ) -> Result<List<Note>, NoMemory>
     requires name { blank.name ≡ L.name }
     requires parts { blank.parts ≡ L.parts }
     requires some { 0 < blank.parts }
-    requires bound { IsBinding pair.now }
-    requires marks { AreMarksOf pair.now.old.now pair.now.marks.now }
-    ensures { IfOk result (AreAffected (sides_of pair.now)) }
+    requires comparison { IsComparison compared.now }
+    ensures { IfOk result (AreAffected (sides_in compared.now)) }
 {
-    typed_pairs_can_be_explored();
+    paths_end_where_they_lead();
+    paths_by_representatives();
+    parents_spell_paths();
     let mut steps = Steps::<L>::new(blank);
-    let old_classes = alike(alloc, pair.old.graph())?;
-    let new_classes = alike_beside(alloc, pair.new.graph(), &old_classes)?;
-    let roots = roots(alloc, pair)?;
-    pair.old.graph().known();
-    pair.new.graph().known();
-    old_classes.known();
-    new_classes.known();
-    let graphs = GraphPair {
-        old: pair.old.graph(),
-        new: pair.new.graph(),
-        roots: roots.as_slice(),
-        marks: pair.marks,
-        old_classes: &old_classes,
-        new_classes: &new_classes,
-    };
-    with_graphs(alloc, pair, &graphs, &mut steps)
+    with_explored(
+        alloc,
+        compared.pair.old,
+        compared.graphs,
+        compared.explored,
+        &mut steps,
+    )
 }
 
-/// The notes on the exports that lead to types that break a rule: for each two such types, a note on each compared export that
-/// leads to them, except the export of the report's row. A note names the export, and the row by its export and its path. This
-/// takes the time of an exploration, and for each two such types that of a pass over what was explored. Returns `NoMemory` if that
+/// The notes on the exports that lead to types that break a rule, from a comparison of two libraries: for each two such types, a
+/// note on each compared export that leads to them, except the export of the report's row. A note names the export, and the row by
+/// its export and its path. For each two such types this takes the time of a pass over what was explored. Returns `NoMemory` if that
 /// is too much, or if there are too many notes.
-pub fn affected_exports(alloc: Global, pair: &BoundPair) -> Result<List<Note>, NoMemory>
-    requires bound { IsBinding pair.now }
-    requires marks { AreMarksOf pair.now.old.now pair.now.marks.now }
-    ensures { IfOk result (AreAffected (sides_of pair.now)) }
+pub fn affected_exports(alloc: Global, compared: &Compared) -> Result<List<Note>, NoMemory>
+    requires { IsComparison compared.now }
+    ensures { IfOk result (AreAffected (sides_in compared.now)) }
 {
-    counted_notes::<Brand>(alloc, Blank::new(1), pair)
+    counted_notes::<Brand>(alloc, Blank::new(1), compared)
 }

@@ -10,6 +10,7 @@ pub mod idle;
 pub mod laws;
 mod lines;
 pub mod making;
+pub mod needs;
 pub mod old_exports;
 mod said_once;
 pub mod stems;

@@ -12,13 +12,16 @@ use type_notes::{Note, NoteKind};
 const MOST: usize = 10;
 
 // The kinds, in the order in which they are printed.
-static ALL_KINDS: [NoteKind; 21] = [
+static ALL_KINDS: [NoteKind; 24] = [
     NoteKind::AffectedExport,
     NoteKind::ExportAdded,
     NoteKind::VersionAdded,
     NoteKind::ThreadObject,
     NoteKind::ObjectQualifiers,
     NoteKind::Successor,
+    NoteKind::NeedsLibrary,
+    NoteKind::NeedsVersion,
+    NoteKind::NeedsSymbol,
     NoteKind::IdleSection,
     NoteKind::ArrayDimensions,
     NoteKind::MemberInPadding,

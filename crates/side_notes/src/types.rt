@@ -1,16 +1,18 @@
 // The notes on types, and all notes on two libraries, from their bytes.
-ghost use Rattle.std.specs.Prelude.{◌≡◌, ◌≤◌, ◌++◌, [], length, IfOk, Some, None};
+ghost use Rattle.std.specs.Prelude.{◌≡◌, ◌≤◌, ◌<◌, ◌++◌, [], length, IfOk, Some, None};
 ghost use Rattle.abi_base.specs.Limits.{input_limit};
-ghost use Rattle.pair_compare.specs.BoundPair.{IsBinding};
+ghost use Rattle.cert_check.specs.Compatible.{sides};
+ghost use Rattle.pair_compare.specs.Compared.{IsComparison, sides_in};
 ghost use Rattle.pair_compare.specs.Marking.{AreMarksOf};
 ghost use Rattle.suppressions.specs.Marks as marks_spec;
-ghost use Rattle.type_notes.specs.NotedPairs.{noted_pair};
-ghost use Rattle.side_notes.specs.AllNotes.{AreAllNotes, AreByRules, AreOfFiles, AreTypeNotes, AreWithBoth, AreWithOld, noted_by};
+ghost use Rattle.side_notes.specs.AllNotes.{AreAllNotes, AreByRules, AreOfFiles, AreTypeNotes, AreWithBoth, AreWithNeeds, AreWithOld, IsOnTypes, needs_where, noted_in};
 ghost use Rattle.side_notes.specs.CountsOfFiles.{counts_by, counts_in, counts_with_both, counts_with_old};
+ghost use Rattle.side_notes.specs.Needs.{needs_notes};
 
 use crate::affected::affected_exports;
 use crate::between::own_notes;
 use crate::counts::{Counts, counts_of};
+use crate::needs::push_needs;
 use crate::said_once::said_once;
 use abi_base::{List, NoMemory, Refusal};
 use abi_types::{Library, Marks, NewIx, OldIx};
@@ -18,8 +20,11 @@ use dwarf_entries::Dwarf;
 use elf_bind::bind_all;
 use library_read::copy::copied;
 use library_read::{WithDebug, read_library, read_with_debug};
-use pair_compare::BoundPair;
+use pair_compare::{Compared, View, compare_by};
+use pair_rules::Steps;
 use std::alloc::Global;
+use std::marker::Brand;
+use std::sync::ledger::{Blank, Ledger};
 use suppression_text::{Rules, read_rules};
 use suppressions::marks;
 use type_notes::{Note, NotedPair, type_notes};
@@ -32,44 +37,87 @@ fn marks_by(alloc: Global, rules: &Rules, old: &Library<OldIx>) -> Result<Marks,
     marks(alloc, rules, old)
 }
 
-// The notes on the types of two libraries, and those on the exports that lead to types which break a rule.
-fn notes_on(alloc: Global, ground: &NotedPair) -> Result<List<Note>, NoMemory>
-    requires bound { IsBinding ground.now.pair }
-    requires marks { AreMarksOf ground.now.pair.old.now ground.now.pair.marks.now }
-    ensures { IfOk result (AreTypeNotes (noted_pair ground.now)) }
+/// The notes on two libraries that are compared, and the counts of their exports.
+#[derive(Drop)]
+pub struct Beside {
+    /// The notes.
+    pub notes: List<Note>,
+    /// How many exports are compared, where none of the files has a fault.
+    pub counts: Option<Counts>,
+}
+
+// ---- from one comparison
+
+// The view that shows the notes on types, those on the exports that lead to types which break a rule, and the counts of exports.
+#[derive(Clone, Copy)]
+struct OnTypes<'x, 'd, 'e> {
+    old_dwarf: &'x Dwarf<'d>,
+    new_dwarf: &'x Dwarf<'e>,
+}
+
+// The notes on the types of two libraries that were compared, and those on the exports that lead to types which break a rule.
+fn notes_on(alloc: Global, on: &OnTypes, compared: &Compared) -> Result<List<Note>, NoMemory>
+    requires { IsComparison compared.now }
+    ensures { IfOk result (AreTypeNotes (noted_in on.now.old_dwarf.now on.now.new_dwarf.now (sides_in compared.now))) }
 {
-    let mut all = type_notes(alloc, ground)?.into_vec();
-    let mut affected = affected_exports(alloc, &ground.pair)?.into_vec();
+    let ground = NotedPair {
+        pair: *compared.pair,
+        old_dwarf: on.old_dwarf,
+        new_dwarf: on.new_dwarf,
+    };
+    let mut all = type_notes(alloc, &ground)?.into_vec();
+    let mut affected = affected_exports(alloc, compared)?.into_vec();
     all.append(&mut affected)?;
     Ok(List::of(all))
 }
 
-// The notes on the types of two libraries that were read, with their debug information.
-fn with_dwarfs<'x>(
-    alloc: Global,
-    libraries: (&'x Library<OldIx>, &'x Library<NewIx>),
-    marks: &'x Marks,
-    old_dwarf: &'x Dwarf,
-    new_dwarf: &'x Dwarf,
-) -> Result<List<Note>, NoMemory>
-    requires { AreMarksOf libraries.0.now marks.now }
-    ensures { IfOk result (AreTypeNotes (noted_by libraries.entry.0.now libraries.entry.1.now marks.now old_dwarf.now new_dwarf.now)) }
+// How many exports are compared, by what a comparison bound them to.
+fn counts_on(alloc: Global, compared: &Compared) -> Result<Counts, NoMemory>
+    requires { IsComparison compared.now }
+    ensures { let s = sides_in compared.now in IfOk result (λ counts. counts ≡ counts_by s.old s.new s.marks) }
 {
-    let (old, new) = libraries;
-    let bound = bind_all(alloc, old.exports(), new.exports())?;
-    let pair = BoundPair {
-        old,
-        new,
-        marks,
-        bound: bound.as_slice(),
-    };
-    let ground = NotedPair {
-        pair,
-        old_dwarf,
-        new_dwarf,
-    };
-    notes_on(alloc, &ground)
+    counts_of(alloc, compared.pair.marks, compared.pair.bound)
 }
+
+impl<'x, 'd, 'e> View for OnTypes<'x, 'd, 'e> {
+    type Shown = Beside;
+
+    ghost shows = { λ v s beside. IsOnTypes v.old_dwarf.now v.new_dwarf.now s beside };
+
+    fn view(&self, alloc: Global, compared: &Compared) -> Result<Beside, NoMemory> {
+        let counts = counts_on(alloc, compared)?;
+        let notes = notes_on(alloc, self, compared)?;
+        Ok(Beside {
+            notes,
+            counts: Some(counts),
+        })
+    }
+}
+
+// What is said of the types of two libraries that were read with their debug information, with a counter of steps. They are compared
+// once.
+fn beside_types<'x, L: Ledger>(
+    alloc: Global,
+    blank: Blank,
+    old: &'x WithDebug<OldIx>,
+    new: &'x WithDebug<NewIx>,
+    marks: &Marks,
+) -> Result<Beside, NoMemory>
+    requires name { blank.name ≡ L.name }
+    requires parts { blank.parts ≡ L.parts }
+    requires some { 0 < blank.parts }
+    requires marks { AreMarksOf old.now.library marks.now }
+    ensures { IfOk result (IsOnTypes old.now.dwarf new.now.dwarf (sides old.now.library new.now.library marks.now)) }
+{
+    let view = OnTypes {
+        old_dwarf: &old.dwarf,
+        new_dwarf: &new.dwarf,
+    };
+    let mut steps = Steps::<L>::new(blank);
+    compare_by(alloc, &old.library, &new.library, marks, &view, &mut steps)
+}
+
+// ---- from the bytes of files
 
 // Notes behind others.
 fn joined(before: List<Note>, behind: List<Note>) -> Result<List<Note>, NoMemory>
@@ -79,28 +127,6 @@ fn joined(before: List<Note>, behind: List<Note>) -> Result<List<Note>, NoMemory
     let mut others = behind.into_vec();
     all.append(&mut others)?;
     Ok(List::of(all))
-}
-
-// How many exports of two libraries that were read are compared.
-fn counts_between(
-    alloc: Global,
-    old: &Library<OldIx>,
-    new: &Library<NewIx>,
-    marks: &Marks,
-) -> Result<Counts, NoMemory>
-    ensures { IfOk result (λ counts. counts ≡ counts_by old.now new.now marks.now) }
-{
-    let bound = bind_all(alloc, old.exports(), new.exports())?;
-    counts_of(alloc, marks, bound.as_slice())
-}
-
-/// The notes on two libraries that are compared, and the counts of their exports.
-#[derive(Drop)]
-pub struct Beside {
-    /// The notes.
-    pub notes: List<Note>,
-    /// How many exports are compared, where none of the files has a fault.
-    pub counts: Option<Counts>,
 }
 
 // Nothing is said beside.
@@ -126,14 +152,12 @@ fn with_rules(
     ensures counts { IfOk result (λ beside. beside.counts ≡ Some (counts_by old.now.library new.now.library (marks_spec.marks_of rules.now old.now.library))) }
 {
     let marks = marks_by(alloc, rules, &old.library)?;
-    let counts = counts_between(alloc, &old.library, &new.library, &marks)?;
     let own = own_notes(alloc, &old.library, &new.library, rules, &marks)?;
-    let libraries = (&old.library, &new.library);
-    let on_types = with_dwarfs(alloc, libraries, &marks, &old.dwarf, &new.dwarf)?;
-    let all = joined(on_types, own)?;
+    let Beside { notes, counts } = beside_types::<Brand>(alloc, Blank::new(1), old, new, &marks)?;
+    let all = joined(notes, own)?;
     Ok(Beside {
         notes: said_once(alloc, all)?,
-        counts: Some(counts),
+        counts,
     })
 }
 
@@ -190,8 +214,35 @@ fn of_files(alloc: Global, old: &[u8], new: &[u8], rules: &[u8]) -> Result<Besid
     }
 }
 
+// What is said beside, and then the notes on what only the new file needs of other files, where exports are counted.
+fn with_needs(alloc: Global, beside: Beside, old: &[u8], new: &[u8]) -> Result<Beside, NoMemory>
+    requires old_short { length old.now ≤ input_limit }
+    requires new_short { length new.now ≤ input_limit }
+    ensures notes { IfOk result (λ all. all.notes ≡ beside.notes ++ needs_where beside.counts (needs_notes old.now new.now)) }
+    ensures counts { IfOk result (λ all. all.counts ≡ beside.counts) }
+{
+    let Beside { mut notes, counts } = beside;
+    match counts {
+        None => {}
+        Some(_) => push_needs(alloc, &mut notes, old, new)?,
+    }
+    Ok(Beside { notes, counts })
+}
+
+// All that is said beside two libraries, from their bytes and those of a rule file.
+fn beside_files(alloc: Global, old: &[u8], new: &[u8], rules: &[u8]) -> Result<Beside, NoMemory>
+    requires old_short { length old.now ≤ input_limit }
+    requires new_short { length new.now ≤ input_limit }
+    ensures notes { IfOk result (λ all. AreWithNeeds old.now new.now rules.now all.notes) }
+    ensures counts { IfOk result (λ all. all.counts ≡ counts_in old.now new.now rules.now) }
+{
+    let beside = of_files(alloc, old, new, rules)?;
+    let all = with_needs(alloc, beside, old, new)?;
+    Ok(all)
+}
+
 /// All notes on two libraries, from their bytes and those of a rule file: those on their types, those on the exports that lead to
-/// types that break a rule, and then those on their exports alone. Of notes on types with the same names before and now, only the
+/// types that break a rule, those on their exports alone, and then those on what only the new one needs of other files. Of notes on types with the same names before and now, only the
 /// first is kept. There are no notes if one of the files has a fault, or if both libraries are the same bytes; then nothing is
 /// read.
 pub fn all_notes(
@@ -207,8 +258,21 @@ pub fn all_notes(
     if old == new {
         return Ok(List::new(alloc));
     }
-    let beside = of_files(alloc, old, new, rules)?;
+    let beside = beside_files(alloc, old, new, rules)?;
     Ok(beside.notes)
+}
+
+// How many exports of two libraries that were read are compared.
+fn counts_between(
+    alloc: Global,
+    old: &Library<OldIx>,
+    new: &Library<NewIx>,
+    marks: &Marks,
+) -> Result<Counts, NoMemory>
+    ensures { IfOk result (λ counts. counts ≡ counts_by old.now new.now marks.now) }
+{
+    let bound = bind_all(alloc, old.exports(), new.exports())?;
+    counts_of(alloc, marks, bound.as_slice())
 }
 
 // How many exports of a library are compared with its own, by a rule file that was read.
@@ -267,5 +331,5 @@ pub fn all_beside(alloc: Global, old: &[u8], new: &[u8], rules: &[u8]) -> Result
             counts: same_counts(alloc, old, rules)?,
         });
     }
-    of_files(alloc, old, new, rules)
+    beside_files(alloc, old, new, rules)
 }

@@ -34,7 +34,7 @@ pub use between::{DwarfPair, push_differences};
 pub use definitions::{DefinitionPair, Definitions};
 pub use difference::Difference;
 pub use entries::{EntryPair, push_changes};
-pub use note::{Note, NoteKind};
+pub use note::{Note, NoteKind, NoteWeight};
 pub use noted_pair::NotedPair;
 pub use padding::Bits;
 pub use type_pair::{Packed, TypePair};

@@ -1,6 +1,6 @@
 // A note.
 ghost use Rattle.std.specs.Prelude.{◌≡◌};
-ghost use Rattle.type_notes.specs.Notes.{kind_name};
+ghost use Rattle.type_notes.specs.Notes.{kind_name, weight_of};
 
 use abi_base::List;
 
@@ -49,11 +49,60 @@ pub enum NoteKind {
     Successor,
     /// An export that leads to two types that break a rule, in addition to the one that their row names.
     AffectedExport,
+    // ---- other files
+    /// A file that only the new library needs.
+    NeedsLibrary,
+    /// A version of a file that only the new library needs.
+    NeedsVersion,
+    /// A symbol that some other file must define for the new library alone.
+    NeedsSymbol,
+    // ---- the rule file
     /// A section of the rule file that matches nothing.
     IdleSection,
 }
 
+/// What a difference may do to callers that were compiled against the old library.
+#[derive(Clone, Copy, Debug, PartialEq, Eq)]
+pub enum NoteWeight {
+    /// It can break callers, though no rule judges it.
+    CanBreakCallers,
+    /// It is only told.
+    OnlyTold,
+}
+
 impl NoteKind {
+    /// Whether a note of the kind can break callers.
+    pub fn weight(self) -> NoteWeight
+        ensures { result ≡ weight_of self }
+    {
+        match self {
+            NoteKind::ArrayDimensions
+            | NoteKind::MemberInPadding
+            | NoteKind::UnionWithoutMembers
+            | NoteKind::Endianity
+            | NoteKind::CallingConvention
+            | NoteKind::AddressClass
+            | NoteKind::Packing
+            | NoteKind::EnumeratorSign
+            | NoteKind::DefinedElsewhere
+            | NoteKind::ThreadObject
+            | NoteKind::ObjectQualifiers => NoteWeight::CanBreakCallers,
+            NoteKind::TagOrName
+            | NoteKind::ParameterName
+            | NoteKind::Qualifiers
+            | NoteKind::Prototype
+            | NoteKind::NoReturn
+            | NoteKind::ExportAdded
+            | NoteKind::VersionAdded
+            | NoteKind::Successor
+            | NoteKind::AffectedExport
+            | NoteKind::NeedsLibrary
+            | NoteKind::NeedsVersion
+            | NoteKind::NeedsSymbol
+            | NoteKind::IdleSection => NoteWeight::OnlyTold,
+        }
+    }
+
     /// The kind in plain words.
     pub fn name(self) -> &'static str
         ensures { result.now ≡ kind_name self }
@@ -79,6 +128,9 @@ impl NoteKind {
             NoteKind::VersionAdded => "version added",
             NoteKind::Successor => "likely successor",
             NoteKind::AffectedExport => "affected export",
+            NoteKind::NeedsLibrary => "needs library",
+            NoteKind::NeedsVersion => "needs version",
+            NoteKind::NeedsSymbol => "needs symbol",
             NoteKind::IdleSection => "idle section",
         }
     }

@@ -1,0 +1,4 @@
+pub mod AllNeeds
+pub mod ReadLemmas
+pub mod SeenLemmas
+pub mod UsedEntries
