@@ -95,6 +95,14 @@ C
 gcc -shared -fPIC -o once.so once.c
 preload=$PWD/once.so says 3 "plain.so: reading failed" exports plain.so
 output=/dev/full says 6 "writing failed" exports plain.so
+# A pipe that its reader closed, as `head` does: the status alone says it.
+exec 3> >(:)
+wait $!
+ended=0
+"$program" entries plain.so >&3 2>errors || ended=$?
+exec 3>&-
+[ "$ended" -eq 6 ] && [ ! -s errors ] || fail "of a closed pipe: status $ended, $(cat errors)"
+passed "nothing is said of a closed pipe"
 limit=32768 says 4 "out of memory" trial 50000
 truncate -s 268435457 long.so
 says 2 "long.so: it is longer than 256 MiB" exports long.so
@@ -126,6 +134,7 @@ wrong "--help=all: the option takes no value" --help=all
 # ---- files of other kinds
 
 : >empty
+: >no_rules
 says 2 "empty: it is empty" exports empty
 # A path takes one line, whatever its characters are.
 odd=$(printf 'two\nlines\033[0m')
@@ -361,8 +370,21 @@ rule() {
 }
 rule 1 "it is no comment, no section and no property of a section" 'lonely\n'
 rule 1 "it is not UTF-8" '\377\n'
-rule 1 "there is no section of this name" '[suppress_nothing]\nname = a\n'
-rule 2 "the section has no such property, or none with this value" '[suppress_type]\nnothing = a\n'
+rule 1 "there is no section of this name: [suppress_nothing]; the sections are suppress_function, suppress_variable and suppress_type" '[suppress_nothing]\nname = a\n'
+no_property="the section has no such property, or none with this value"
+of_types="the properties of suppress_type are label, name, name_regexp, name_not_regexp, soname_regexp, type_kind and accessed_through"
+of_exports="the properties of suppress_function and suppress_variable are label, name, name_regexp, name_not_regexp, symbol_name, symbol_name_regexp, symbol_version, symbol_version_regexp and soname_regexp"
+rule 2 "$no_property: nothing = a; $of_types" '[suppress_type]\nnothing = a\n'
+rule 4 "$no_property: symbol_name = a; $of_types" '[suppress_function]\nname = a\n[suppress_type]\nsymbol_name = a\n'
+rule 4 "$no_property: type_kind = struct; $of_exports" '[suppress_type]\nname = a\n[suppress_variable]\n  type_kind = struct\n'
+rule 2 "$no_property: type_kind = class; the values of type_kind are struct, union, enum, typedef and builtin" '[suppress_type]\ntype_kind = class\n'
+rule 2 "$no_property: accessed_through = reference; the values of accessed_through are direct and pointer" '[suppress_type]\naccessed_through = reference\n'
+rule 1 "there is no section of this name: [$(printf 'a%.0s' $(seq 59))..; the sections are suppress_function, suppress_variable and suppress_type" "[$(printf 'a%.0s' $(seq 99))]\n"
+# The rules of a pipe cannot be read again, so they are not quoted.
+printf '[suppress_nothing]\n' >pipe &
+says 2 "pipe: line 1: there is no section of this name" check --rules pipe plain.so plain.so
+printf '[suppress_type]\nnothing = a\n' >pipe &
+says 2 "pipe: line 2: $no_property" check --rules pipe plain.so plain.so
 rule 1 "the section says nothing of what it leaves out" '[suppress_type]\n'
 rule 2 "the pattern is no regular expression" '[suppress_type]\nname_regexp = (\n'
 rule 2 "the pattern has more than 256 bytes" "[suppress_type]\nname_regexp = $(printf 'a%.0s' $(seq 257))\n"
@@ -388,8 +410,67 @@ printf '# name = a # b\n[suppress_type]\nname = a#b;c\n' >rules
 
 # Valid certificates that prove something else.
 sed 's/int x, y/long x, y/' f.c | gcc -shared -fPIC -g -o other.so -x c -
-says 5 "certificate: the certificate does not prove that other.so may replace plain.so" verify plain.so other.so certificate
-says 5 "certificate: with certificate it does not prove that plain.so may replace plain.so" compose plain.so other.so plain.so certificate certificate
+cp f.c twin.c
+gcc -shared -fPIC -g -o twin.so twin.c
+printf '[suppress_type]\nname = point\n' >opaque
+"$program" check --rules opaque plain.so plain.so >ruled
+"$program" check plain.so twin.so >to_twin
+
+# refuses FILE SENTENCE ARGUMENT..: of a certificate, the program must say what it does not prove, and then this sentence about the file.
+refuses() {
+    local sentence="$1: $2"
+    shift 2
+    run "$@"
+    [ "$ended" -eq 5 ] || fail "status $ended, not 5: $*"
+    [ "$(wc -l <errors)" -eq 2 ] && grep -q "does not prove that" errors || fail "of $* it says: $(cat errors)"
+    [ "$(tail -n 1 errors)" = "abi: $sentence" ] || fail "of $* it says: $(cat errors)"
+    passed "$sentence"
+}
+not_old="it is not the old library of the certificate"
+not_new="it is not the new library of the certificate"
+without_rules="it was made with a rule file, and none is given"
+refuses other.so "$not_new certificate" verify plain.so other.so certificate
+refuses other.so "$not_old certificate" verify other.so plain.so certificate
+refuses opaque "it is not the rule file of the certificate certificate" verify --rules opaque plain.so plain.so certificate
+refuses no_rules "it is not the rule file of the certificate ruled" verify --rules no_rules plain.so plain.so ruled
+refuses ruled "$without_rules" verify plain.so plain.so ruled
+refuses other.so "$not_old certificate" compose other.so plain.so plain.so certificate certificate
+refuses other.so "$not_new certificate" compose plain.so other.so plain.so certificate certificate
+refuses twin.so "$not_old certificate" compose plain.so twin.so plain.so to_twin certificate
+refuses other.so "$not_new certificate" compose plain.so plain.so other.so certificate certificate
+refuses ruled "$without_rules" compose plain.so plain.so plain.so ruled certificate
+refuses ruled "$without_rules" compose plain.so plain.so plain.so certificate ruled
+sed 's/^yes 2$/yes 1/; s/^\(pair [0-9]* [0-9]*\) .*/\1/' certificate | awk '!/^pair/ || !seen[$0]++' >first_version
+refuses other.so "$not_old first_version" migrate other.so plain.so first_version
+# A certificate of the right files that is refused for another cause is told in one sentence.
+sed '/^bind/d' certificate >unbound
+says 5 "unbound: the certificate does not prove that plain.so may replace plain.so" verify plain.so plain.so unbound
+
+# ---- programs, and types that are no structures
+
+echo 'int main(void) { return 0; }' >main.c
+gcc -pie -fPIE -o pie main.c
+gcc -pie -fPIE -rdynamic -g -o exporting main.c
+(cat f.c; echo 'const char interpreter[] __attribute__((section(".interp"))) = "/lib64/ld-linux-x86-64.so.2";') | gcc -shared -fPIC -g -o interpreted.so -x c -
+[ "$(readelf --wide --segments interpreted.so | grep -c ' INTERP ')" -eq 1 ] || fail "interpreted.so has no interpreter"
+program_words="it is a program (a position-independent executable), not a library"
+for made in pie exporting; do
+    run check $made plain.so
+    [ "$ended" -le 1 ] && grep -qx "abi: $made: $program_words" errors || fail "of $made it says: $(cat errors)"
+    run check plain.so $made
+    grep -qx "abi: $made: $program_words" errors || fail "of $made as the new one it says: $(cat errors)"
+    run check $made $made
+    [ "$(grep -cx "abi: $made: $program_words" errors)" -eq 1 ] || fail "of $made twice it says: $(cat errors)"
+    passed "$made: $program_words"
+done
+for made in plain.so interpreted.so; do
+    run check $made $made
+    ! grep "it is a program" errors || fail "$made is a program"
+done
+passed "a library that names an interpreter is no program"
+echo 'union number { int i; float f; }; enum color { RED }; int f(union number *n, enum color c) { return n->i + c; }' | gcc -shared -fPIC -g -o tags.so -x c -
+says 5 "tags.so: number is a union, and layout prints structures alone" layout tags.so number
+says 5 "tags.so: color is an enumeration, and layout prints structures alone" layout tags.so color
 
 # ---- what is seen and not judged
 
@@ -446,7 +527,7 @@ done
 # ---- each sentence has its row
 
 # The texts of the crate explain for faults and their places; {..} stands for anything.
-sed 's,//.*,,' "$root"/crates/explain/src/{faults,files}.rt | grep -o '[^b]"[^"]*"' >texts
+sed 's,//.*,,' "$root"/crates/explain/src/{allowed,faults,files}.rt | grep -o '[^b]"[^"]*"' >texts
 sed 's,//.*,,' "$root/crates/explain/src/sentence.rt" | grep -o '"[^"]*{[^"]*"' >>texts
 sed -i 's/^[^"]*"//; s/"$//; s/{[^}]*}/.*/g' texts
 [ "$(wc -l <texts)" -ge 60 ] || fail "the sources have $(wc -l <texts) texts"

@@ -4,10 +4,12 @@
 
 mod beside;
 mod notes;
+mod output;
 
 use crate::beside::{are_wanted, text_beside};
 use crate::notes::notes_of;
-use abi_base::{FileInputs, NoMemory, StdSink};
+use crate::output::Output;
+use abi_base::{FileInputs, NoMemory};
 use abi_top::{Ended, Outcome, run};
 use report::{CountsListener, FirstListener, Listener, TableListener, TextListener, add_listener};
 use std::io::{ErrorKind, IsTerminal};
@@ -63,7 +65,7 @@ fn outcome_of<R: Files + Print + Eprint + AllocGlobal>(
         words.push(argument.as_str())?;
     }
     let mut inputs = FileInputs::new(rt);
-    let mut sink = StdSink::new(rt);
+    let mut sink = Output::new(rt);
     // A listener for each style of a report except `own`.
     let alloc = rt.alloc();
     let mut listeners: Vec<Box<dyn Listener>> = Vec::new(alloc);
@@ -75,16 +77,19 @@ fn outcome_of<R: Files + Print + Eprint + AllocGlobal>(
         Box::new(alloc, FirstListener::new(alloc, FIRST_ROWS))?,
     )?;
     let ended = run(alloc, &words, &mut inputs, &mut sink, listeners);
-    tell(rt, &words, &ended);
+    // Nobody is told that nobody reads.
+    if !sink.is_closed() {
+        tell(rt, &words, &ended, sink.first());
+    }
     if with_notes {
         tell_notes(rt, &words, &ended);
     }
     Ok(ended.outcome)
 }
 
-// Prints the notes on standard error. If that fails, the answer does not change.
-fn tell<R: Files + Eprint + AllocGlobal>(rt: &R, words: &[&str], ended: &Ended<'_>) {
-    let Ok(notes) = notes_of(rt, words, ended) else {
+// Prints the notes on standard error, given the first bytes of the answer. If that fails, the answer does not change.
+fn tell<R: Files + Eprint + AllocGlobal>(rt: &R, words: &[&str], ended: &Ended<'_>, answer: &[u8]) {
+    let Ok(notes) = notes_of(rt, words, ended, answer) else {
         return;
     };
     for note in &notes {

@@ -18,6 +18,8 @@ use std::rt::Files;
 // The command for notes only.
 const NOTES: &str = "notes";
 
+const USAGE: &str = "usage: abi-json notes [--rules FILE] OLD NEW\n";
+
 /// Whether the arguments request notes only.
 pub(crate) fn is_for_notes(words: &[&str]) -> bool {
     words.first().is_some_and(|word| *word == NOTES)
@@ -101,6 +103,14 @@ fn notes_on_files<R: Files + AllocGlobal>(
     Ok((notes, Outcome::Judged(Verdict::Done, None)))
 }
 
+// The text of a document: the usage, where the arguments are wrong or request the help.
+fn text_of(outcome: Outcome) -> &'static [u8] {
+    match outcome {
+        Outcome::Help | Outcome::Usage => USAGE.as_bytes(),
+        _ => b"",
+    }
+}
+
 // The document of notes, or of the reason why there are none. It leaves out the files, which are in the document of the answer.
 fn told_with<R: Files + AllocGlobal>(
     rt: &R,
@@ -112,7 +122,7 @@ fn told_with<R: Files + AllocGlobal>(
         words,
         outcome,
         files: &[],
-        text: b"",
+        text: text_of(outcome),
         wanted: Wanted {
             notes: true,
             digests: false,

@@ -9,7 +9,7 @@ use crate::places::TypeFacts;
 use crate::wanted::Wanted;
 use abi_base::{Fault, NoMemory, Remark, SizedExports};
 use commands::{File, Input, Outcome, Verdict};
-use explain::{name_of, notes_on};
+use explain::{name_of, notes_on, other_input_sentence};
 use json_report::with_member;
 use serde_json::{Map, Value, json, put};
 use std::alloc::{AllocError, Global};
@@ -88,19 +88,24 @@ fn untyped_of(alloc: Global, outcome: Outcome) -> Result<Value, AllocError> {
 }
 
 // The sentences beside the answer, as an array.
-fn notes_value<R: Files + AllocGlobal>(
-    rt: &R,
-    outcome: Outcome,
-    files: &[File<'_>],
-) -> Result<Value, NoMemory> {
+fn notes_value<R: Files + AllocGlobal>(rt: &R, ending: &Ending<'_>) -> Result<Value, NoMemory> {
     let alloc = rt.alloc();
+    let Ending {
+        outcome,
+        files,
+        text,
+        ..
+    } = *ending;
     let mut bytes = Vec::new(alloc);
     if let Outcome::Unreadable(which, _) = outcome {
         if let Some(path) = name_of(files, which) {
             bytes = bytes_of(rt, path).unwrap_or(bytes);
         }
     }
-    let notes = notes_on(alloc, outcome, files, &bytes, "reading failed")?;
+    let mut notes = notes_on(alloc, outcome, files, &bytes, "reading failed")?;
+    if let Some(note) = other_input_sentence(alloc, files, text)? {
+        notes.push(note)?;
+    }
     let mut list = Vec::new(alloc);
     for note in &notes {
         list.push(Value::try_from_str(alloc, note.as_str())?)?;
@@ -234,7 +239,6 @@ fn head_of<R: Files + AllocGlobal>(
     let Ending {
         words,
         outcome,
-        files,
         text,
         ..
     } = *ending;
@@ -261,7 +265,7 @@ fn head_of<R: Files + AllocGlobal>(
     put(&mut head, alloc, "inputs", Value::Array(members.inputs))?;
     put(&mut head, alloc, "fault", fault_of(alloc, outcome)?)?;
     put(&mut head, alloc, "untyped", untyped_of(alloc, outcome)?)?;
-    put(&mut head, alloc, "notes", notes_value(rt, outcome, files)?)?;
+    put(&mut head, alloc, "notes", notes_value(rt, ending)?)?;
     put(&mut head, alloc, "side_notes", side_notes)?;
     put(
         &mut head,

@@ -34,3 +34,31 @@ pub(crate) const HEADER_SIZE: usize = 64;
 pub(crate) const SH_OFFSET: usize = 24;
 
 pub(crate) const SH_LINK: usize = 40;
+
+// Offsets in an ELF header: the position of the program header table, and the number of its entries (gABI, "ELF Header").
+pub(crate) const E_PHOFF: usize = 32;
+
+pub(crate) const E_PHNUM: usize = 56;
+
+// The size of a program header, the offsets of its fields, and the types of segments (gABI, "Program Header").
+pub(crate) const PROGRAM_HEADER_SIZE: usize = 56;
+
+pub(crate) const P_OFFSET: usize = 8;
+
+pub(crate) const P_FILESZ: usize = 32;
+
+pub(crate) const PT_DYNAMIC: u32 = 2;
+
+pub(crate) const PT_INTERP: u32 = 3;
+
+// The size of an entry of the dynamic table, the offset of its value, the tags of the end and of the flags (gABI, "Dynamic
+// Section"; DT_FLAGS_1 and its flag DF_1_PIE are GNU's).
+pub(crate) const DYNAMIC_SIZE: usize = 16;
+
+pub(crate) const D_VAL: usize = 8;
+
+pub(crate) const DT_NULL: u64 = 0;
+
+pub(crate) const DT_FLAGS_1: u64 = 0x6fff_fffb;
+
+pub(crate) const DF_1_PIE: u64 = 0x0800_0000;

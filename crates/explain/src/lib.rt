@@ -3,6 +3,7 @@
 //! promised answer is its exit number and its standard output, and nothing here changes either.
 #![tactic(auto)]
 
+mod allowed;
 mod applications;
 mod constants;
 mod failures;
@@ -11,7 +12,9 @@ mod files;
 mod limits;
 mod lines;
 mod notes;
+mod other_inputs;
 mod places;
+mod programs;
 mod refusals;
 mod remarks;
 mod rule_lines;
@@ -24,9 +27,11 @@ pub use applications::{lacking_sentence, links_sentence};
 pub use failures::failure_sentence;
 pub use limits::memory_sentence;
 pub use notes::{name_of, notes_on};
+pub use other_inputs::other_input_sentence;
+pub use programs::{has_interpreter, is_program, program_sentence};
 pub use refusals::{refused_sentence, uncomposed_sentence};
 pub use remarks::{lost_sentence, sizeless_sentence, untyped_sentence};
 pub use rule_lines::{comment_sentence, commented_values};
 pub use sentence::fault_sentence;
-pub use tags::tag_sentence;
+pub use tags::{TaggedType, tag_sentence, tagged_sentence};
 pub use wrong::wrong_sentence;

@@ -4,6 +4,7 @@ ghost use Rattle.std.specs.String.{string_bytes};
 ghost use Rattle.explain.specs.Lines.{is_one_line};
 ghost use Rattle.explain.specs.Sentences.{SaysFault, fault_mark};
 
+use crate::allowed::push_allowed;
 use crate::faults::{info_sentence, line_sentence, numbered_sentence, whole_table_sentence};
 use crate::files::file_sentence;
 use crate::lines::said;
@@ -77,7 +78,10 @@ fn push_why(text: &mut String, fault: Fault, bytes: &[u8]) -> Result<(), AllocEr
             text,
             "offset {at:#x} of .debug_abbrev: the abbreviation is damaged"
         ),
-        Place::Line => write!(text, "line {at}: {}", line_sentence(kind)),
+        Place::Line => {
+            write!(text, "line {at}: {}", line_sentence(kind))?;
+            push_allowed(text, fault, bytes)
+        }
     }
 }
 

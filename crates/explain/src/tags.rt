@@ -2,6 +2,7 @@
 ghost use Rattle.std.specs.Prelude.{◌≡◌, ℕ, List, IfOk, IsTrue, string_bytes};
 ghost use Rattle.explain.specs.Lines.{is_one_line};
 ghost use Rattle.explain.specs.Sentences.{said_of};
+ghost use Rattle.explain.specs.Tags as spec;
 
 use crate::lines::said;
 use abi_base::NoMemory;
@@ -54,4 +55,46 @@ pub fn tag_sentence(
 {
     let words = words_of(alloc, tag, is_declared, near)?;
     Ok(said(alloc, path, words.as_str())?)
+}
+
+/// A type with a tag that is no structure.
+#[derive(Clone, Copy, Debug, PartialEq, Eq)]
+pub enum TaggedType {
+    /// A union.
+    Union,
+    /// An enumeration.
+    Enumeration,
+}
+
+// The words about the tag of a type of this kind.
+fn kind_words(alloc: Global, tag: &str, kind: &str) -> Result<String, AllocError>
+    ensures { IfOk result (λ words. string_bytes words ≡ spec.kind_words tag.now kind.now) }
+{
+    format!(in alloc; "{tag} is {kind}, and layout prints structures alone")
+}
+
+// The sentence on a library at a path whose exports reach a type of this kind with this tag.
+fn kind_sentence(alloc: Global, path: &str, tag: &str, kind: &str) -> Result<String, NoMemory>
+    ensures says { IfOk result (λ text. string_bytes text ≡ said_of path.now (spec.kind_words tag.now kind.now)) }
+    ensures line { IfOk result (λ text. IsTrue (is_one_line (string_bytes text))) }
+{
+    let words = kind_words(alloc, tag, kind)?;
+    Ok(said(alloc, path, words.as_str())?)
+}
+
+/// The sentence on a library at a path whose exports reach no structure with this tag, but another type. It is one line, whatever
+/// characters the path and the tag have.
+pub fn tagged_sentence(
+    alloc: Global,
+    path: &str,
+    tag: &str,
+    tagged: TaggedType,
+) -> Result<String, NoMemory>
+    ensures says { IfOk result (λ text. string_bytes text ≡ said_of path.now (spec.tagged_words tag.now tagged)) }
+    ensures line { IfOk result (λ text. IsTrue (is_one_line (string_bytes text))) }
+{
+    match tagged {
+        TaggedType::Union => kind_sentence(alloc, path, tag, "a union"),
+        TaggedType::Enumeration => kind_sentence(alloc, path, tag, "an enumeration"),
+    }
 }

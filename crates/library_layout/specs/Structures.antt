@@ -1,7 +1,9 @@
 -- The layout of a structure in a graph, and the structures of a graph by tag.
-use Rattle.std.specs.Prelude.{◌≡◌, ◌≢◌, ◌<◌, ◌&&◌, ℕ, Bool, true, List, length, All, Contains}
+use Rattle.std.specs.Prelude.{◌≡◌, ◌≢◌, ◌<◌, ◌&&◌, ℕ, Bool, true, false, List, length, All, Contains, Option, Some, None}
 use Rattle.std.specs.List.{AllPairs}
 use Rattle.std.specs.Str.{bytes_eq}
+use Rattle.abi_types.specs.declared.kind.Kind.{Kind}
+use Rattle.abi_types.specs.declared.kind.Kind.TheVariants as kind
 use Rattle.abi_types.specs.Types.{PlainNode, PlainView}
 use Rattle.abi_types.specs.Graphs.{view_at}
 use Rattle.type_print.specs.declared.row.LayoutRow.{LayoutRow}
@@ -10,6 +12,8 @@ use Rattle.type_print.specs.Structures.{bits_at, has_layout, is_structure, membe
 use Rattle.type_print.specs.Texts.{layout_text}
 use Rattle.library_layout.specs.declared.layouts.Layout.{Layout}
 use Rattle.library_layout.specs.declared.layouts.Layout.TheVariants.{Lines, NoTag}
+use Rattle.library_layout.specs.declared.others.OtherTag.{OtherTag}
+use Rattle.library_layout.specs.declared.others.OtherTag.TheVariants.{Union, Enumeration}
 
 -- the text is that of the layout of the structure with a definition, the tag and the earliest entry
 pub record IsLayoutIn (nodes : List PlainNode) (tag text : List ℕ) : Type 0 where
@@ -51,6 +55,32 @@ pub record IsDeclaredIn (nodes : List PlainNode) (tag : List ℕ) : Type 0 where
   pub number : ℕ
   pub inside : number < length nodes
   pub declared : is_declaration (view_at nodes number) tag ≡ true
+
+-- ---- tags of other types
+
+-- the type is of this kind and has this tag, with a definition or without
+abbrev pub is_kind : OtherTag → Kind → Bool
+is_kind Union kind.Union = true
+is_kind Union other = false
+is_kind Enumeration kind.Enumeration = true
+is_kind Enumeration other = false
+
+abbrev pub is_other : PlainView → OtherTag → List ℕ → Bool
+is_other v other tag = is_kind other v.kind && bytes_eq v.tag tag
+
+-- a union has the tag, or an enumeration
+pub record HasOtherIn (nodes : List PlainNode) (other : OtherTag) (tag : List ℕ) : Type 0 where
+  pub number : ℕ
+  pub inside : number < length nodes
+  pub tagged : is_other (view_at nodes number) other tag ≡ true
+
+-- which of these has the tag: a union before an enumeration
+abbrev pub IsOtherIn : List PlainNode → List ℕ → Option OtherTag → Type 0
+IsOtherIn nodes tag (Some Union) = HasOtherIn nodes Union tag
+IsOtherIn nodes tag (Some Enumeration) = HasOtherIn nodes Enumeration tag × ¬ HasOtherIn nodes Union tag
+IsOtherIn nodes tag None = ¬ HasOtherIn nodes Union tag × ¬ HasOtherIn nodes Enumeration tag
+
+-- ---- new tags
 
 -- a structure with a definition has the tag, which is none of these
 pub record IsNewTagIn (nodes : List PlainNode) (tags : List (List ℕ)) (tag : List ℕ) : Type 0 where

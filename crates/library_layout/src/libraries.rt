@@ -5,11 +5,12 @@ ghost use Rattle.library_read.specs.Faults.{library_fault};
 ghost use Rattle.library_read.specs.Libraries.{library_of};
 ghost use Rattle.library_layout.specs.Covers.{LaysEachBit};
 ghost use Rattle.library_layout.specs.Layouts.{IsLaid, IsUnlaid};
-ghost use Rattle.library_layout.specs.Near.{AreNearTags, IsDeclaredTag};
+ghost use Rattle.library_layout.specs.Near.{AreNearTags, IsDeclaredTag, IsOtherTag};
 
 use crate::laws::a_layout_covers_each_bit;
 use crate::layouts::{Layout, is_declared, laid_in, most_letters};
 use crate::near::near_in;
+use crate::others::{OtherTag, other_in};
 use abi_base::{Fault, NoMemory, Refusal};
 use abi_types::{Library, OldIx};
 use library_read::read_library;
@@ -29,6 +30,8 @@ pub enum NoLayout {
 pub struct NearTags<'a> {
     /// Whether a structure with this tag is declared.
     pub is_declared: bool,
+    /// The type beside structures that has this tag.
+    pub other: Option<OtherTag>,
     /// Tags of other structures, the most similar one first.
     pub tags: Vec<&'a [u8]>,
 }
@@ -74,14 +77,15 @@ pub fn layout_of(alloc: Global, library: &[u8], tag: &str) -> Result<Layout, NoL
 }
 
 /// Tags similar to one for which `layout_of` finds no structure: up to five tags of structures with a definition that the exports
-/// of the library reach, the most similar one first, and whether a structure with the given tag is declared. Only the first 64
-/// bytes of tags are compared. Fails as `layout_of` does.
+/// of the library reach, the most similar one first, whether a structure with the given tag is declared, and whether a union or an
+/// enumeration has it. Only the first 64 bytes of tags are compared. Fails as `layout_of` does.
 pub fn near_tags<'a>(alloc: Global, library: &'a [u8], tag: &str) -> Result<NearTags<'a>, NoLayout>
     requires short { length library.now ≤ input_limit }
     ensures readable { OnOk result (library_fault library.now ≡ None) }
     ensures few { IfOk result (λ near. length near.tags.items ≤ 5) }
     ensures reached { IfOk result (λ near. AreNearTags library.now (map (λ t. t.now) near.tags.items)) }
     ensures declared { IfOk result (λ near. IsTrue near.is_declared ↔ IsDeclaredTag library.now tag.now) }
+    ensures other { IfOk result (λ near. IsOtherTag library.now tag.now near.other) }
     ensures unreadable { IfErr result (IsUnlaid library.now) }
 {
     let reached = match read(alloc, library) {
@@ -89,8 +93,13 @@ pub fn near_tags<'a>(alloc: Global, library: &'a [u8], tag: &str) -> Result<Near
         Err(unreadable) => return Err(unreadable),
     };
     let is_declared = is_declared(reached.graph(), tag.as_bytes());
+    let other = other_in(reached.graph(), tag.as_bytes());
     match near_in(alloc, reached.graph(), tag.as_bytes()) {
-        Ok(tags) => Ok(NearTags { is_declared, tags }),
+        Ok(tags) => Ok(NearTags {
+            is_declared,
+            other,
+            tags,
+        }),
         Err(cause) => Err(NoLayout::NoMemory(cause)),
     }
 }
