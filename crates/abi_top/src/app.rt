@@ -27,7 +27,8 @@ pub struct App<'a> {
 impl<'a> App<'a> {
     /// The inputs and the sources of their bytes. It fails only if memory runs out.
     pub fn places(&self, alloc: Global) -> Result<Vec<Place<'a>>, NoMemory>
-        ensures { IfOk result (λ places. map plain_place places.items ≡ places_of (app_inputs (plain_word self.now.words.rules) self.now.words.program.now self.now.words.old.now self.now.words.new.now)) }
+        ensures { let words = self.now.words in IfOk result (λ places. map plain_place places.items
+            ≡ places_of (app_inputs (plain_word words.rules) words.program.now words.old.now words.new.now)) }
     {
         let rules = Place::named_or_empty(alloc, Input::Rules, self.words.rules);
         Ok(vec![in alloc;
@@ -63,7 +64,8 @@ impl Command for App<'_> {
 
 // The judgement with the same verdict and text.
 fn judgement_of(said: AppResult) -> Judgement
-    ensures says { (voices : List Voice) (app old new rules : List ℕ) → IsAppJudged voices app old new rules said.judged → AppSays voices app old new rules result.verdict result.text.items }
+    ensures says { (voices : List Voice) (app old new rules : List ℕ) → IsAppJudged voices app old new rules said.judged
+        → AppSays voices app old new rules result.verdict result.text.items }
     ensures untyped { result.untyped ≡ Some said.remark }
 {
     let AppResult { judged, remark } = said;
@@ -93,9 +95,15 @@ fn judge_app(
     requires old_short { length files.now.old.now ≤ input_limit }
     requires new_short { length files.now.new.now ≤ input_limit }
     requires unheard { All (λ listener. heard listener ≡ []) listeners.items }
-    ensures readable { (rules_name : _) (app_name old_name new_name : List ℕ) → OnOk result (AreReadable (asks_of (app_inputs rules_name app_name old_name new_name)) (files.now.app.now ∷ files.now.old.now ∷ files.now.new.now ∷ files.now.rules.now ∷ [])) }
-    ensures said { IfOk result (λ j. app_says (wanted_voices report (map voice listeners.items)) (files.now.app.now ∷ files.now.old.now ∷ files.now.new.now ∷ files.now.rules.now ∷ []) j.verdict j.untyped j.text.items) }
-    ensures stops { (rules_name : _) (app_name old_name new_name : List ℕ) → IfErr result (StopsAt (asks_of (app_inputs rules_name app_name old_name new_name)) (files.now.app.now ∷ files.now.old.now ∷ files.now.new.now ∷ files.now.rules.now ∷ [])) }
+    ensures readable { (rules_name : _) (app_name old_name new_name : List ℕ)
+        → OnOk result (AreReadable (asks_of (app_inputs rules_name app_name old_name new_name))
+        (files.now.app.now ∷ files.now.old.now ∷ files.now.new.now ∷ files.now.rules.now ∷ [])) }
+    ensures said { IfOk result (λ j. app_says (wanted_voices report (map voice listeners.items))
+        (files.now.app.now ∷ files.now.old.now ∷ files.now.new.now ∷ files.now.rules.now ∷ [])
+        j.verdict j.untyped j.text.items) }
+    ensures stops { (rules_name : _) (app_name old_name new_name : List ℕ)
+        → IfErr result (StopsAt (asks_of (app_inputs rules_name app_name old_name new_name))
+        (files.now.app.now ∷ files.now.old.now ∷ files.now.new.now ∷ files.now.rules.now ∷ [])) }
 {
     let told = wanted_listeners(alloc, listeners, report)?;
     match library_check::app(alloc, files, told) {
@@ -106,7 +114,8 @@ fn judge_app(
 
 // Why there is no verdict, by the input that cannot be read.
 const fn stop_of(not_judged: NotJudged) -> Stop
-    ensures { (rules_name : _) (app_name old_name new_name app old new rules : List ℕ) → IsNotJudged app old new rules not_judged
+    ensures { (rules_name : _) (app_name old_name new_name app old new rules : List ℕ)
+        → IsNotJudged app old new rules not_judged
         → StopsAt (asks_of (app_inputs rules_name app_name old_name new_name)) (app ∷ old ∷ new ∷ rules ∷ []) result }
 {
     match not_judged {

@@ -30,7 +30,8 @@ pub struct Check<'a> {
 impl<'a> Check<'a> {
     /// The inputs and the sources of their bytes. It fails only if memory runs out.
     pub fn places(&self, alloc: Global) -> Result<Vec<Place<'a>>, NoMemory>
-        ensures { IfOk result (λ places. map plain_place places.items ≡ places_of (check_inputs (plain_word self.now.words.rules) self.now.words.old.now self.now.words.new.now)) }
+        ensures { let words = self.now.words in IfOk result (λ places. map plain_place places.items
+            ≡ places_of (check_inputs (plain_word words.rules) words.old.now words.new.now)) }
     {
         let rules = Place::named_or_empty(alloc, Input::Rules, self.words.rules);
         Ok(vec![in alloc;
@@ -59,7 +60,9 @@ impl Command for Check<'_> {
 
 // The judgement with the same verdict and text.
 fn judgement_of(said: CheckResult) -> Judgement
-    ensures says { (voices : List Voice) (old new rules : List ℕ) → IsChecked voices old new rules said.checked → PrintsSuchRelation old new rules said.checked → CheckSays voices old new rules result.verdict result.text.items }
+    ensures says { (voices : List Voice) (old new rules : List ℕ) → IsChecked voices old new rules said.checked
+        → PrintsSuchRelation old new rules said.checked
+        → CheckSays voices old new rules result.verdict result.text.items }
     ensures untyped { result.untyped ≡ Some said.remark }
 {
     let CheckResult { checked, remark } = said;
@@ -90,9 +93,14 @@ fn check_pair(
     requires old_short { length old.now ≤ input_limit }
     requires new_short { length new.now ≤ input_limit }
     requires unheard { All (λ listener. heard listener ≡ []) listeners.items }
-    ensures readable { (rules_name : _) (old_name new_name : List ℕ) → OnOk result (AreReadable (asks_of (check_inputs rules_name old_name new_name)) (old.now ∷ new.now ∷ rules.now ∷ [])) }
-    ensures said { IfOk result (λ j. check_says (wanted_voices report (map voice listeners.items)) (old.now ∷ new.now ∷ rules.now ∷ []) j.verdict j.untyped j.text.items) }
-    ensures stops { (rules_name : _) (old_name new_name : List ℕ) → IfErr result (StopsAt (asks_of (check_inputs rules_name old_name new_name)) (old.now ∷ new.now ∷ rules.now ∷ [])) }
+    ensures readable { (rules_name : _) (old_name new_name : List ℕ)
+        → OnOk result (AreReadable (asks_of (check_inputs rules_name old_name new_name))
+        (old.now ∷ new.now ∷ rules.now ∷ [])) }
+    ensures said { IfOk result (λ j. check_says (wanted_voices report (map voice listeners.items))
+        (old.now ∷ new.now ∷ rules.now ∷ []) j.verdict j.untyped j.text.items) }
+    ensures stops { (rules_name : _) (old_name new_name : List ℕ)
+        → IfErr result (StopsAt (asks_of (check_inputs rules_name old_name new_name))
+        (old.now ∷ new.now ∷ rules.now ∷ [])) }
 {
     let told = wanted_listeners(alloc, listeners, report)?;
     match library_check::check(alloc, old, new, rules, told) {

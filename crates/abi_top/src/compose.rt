@@ -24,7 +24,9 @@ pub struct Compose<'a> {
 impl<'a> Compose<'a> {
     /// The inputs and the sources of their bytes. It fails only if memory runs out.
     pub fn places(&self, alloc: Global) -> Result<Vec<Place<'a>>, NoMemory>
-        ensures { IfOk result (λ places. map plain_place places.items ≡ places_of (compose_inputs self.now.words.first.now self.now.words.middle.now self.now.words.last.now self.now.words.certificate1.now self.now.words.certificate2.now)) }
+        ensures { let words = self.now.words in IfOk result (λ places. map plain_place places.items
+            ≡ places_of (compose_inputs words.first.now words.middle.now words.last.now
+            words.certificate1.now words.certificate2.now)) }
     {
         Ok(vec![in alloc;
             Place::named(Input::First, self.words.first),
@@ -37,7 +39,8 @@ impl<'a> Compose<'a> {
 }
 
 impl Command for Compose<'_> {
-    ghost inputs = { λ c. compose_inputs c.words.first.now c.words.middle.now c.words.last.now c.words.certificate1.now c.words.certificate2.now };
+    ghost inputs = { λ c. compose_inputs c.words.first.now c.words.middle.now c.words.last.now
+        c.words.certificate1.now c.words.certificate2.now };
 
     ghost says = { λ c voices. compose_says };
 
@@ -66,9 +69,18 @@ fn compose_certificates(alloc: Global, files: &ChainFiles) -> Result<Judgement, 
     requires first_short { length files.now.first.now ≤ input_limit }
     requires middle_short { length files.now.middle.now ≤ input_limit }
     requires last_short { length files.now.last.now ≤ input_limit }
-    ensures readable { (first middle last certificate1 certificate2 : List ℕ) → OnOk result (AreReadable (asks_of (compose_inputs first middle last certificate1 certificate2)) (files.now.first.now ∷ files.now.middle.now ∷ files.now.last.now ∷ files.now.certificate1.now ∷ files.now.certificate2.now ∷ [])) }
-    ensures said { IfOk result (λ j. compose_says (files.now.first.now ∷ files.now.middle.now ∷ files.now.last.now ∷ files.now.certificate1.now ∷ files.now.certificate2.now ∷ []) j.verdict j.untyped j.text.items) }
-    ensures stops { (first middle last certificate1 certificate2 : List ℕ) → IfErr result (StopsAt (asks_of (compose_inputs first middle last certificate1 certificate2)) (files.now.first.now ∷ files.now.middle.now ∷ files.now.last.now ∷ files.now.certificate1.now ∷ files.now.certificate2.now ∷ [])) }
+    ensures readable { (first middle last certificate1 certificate2 : List ℕ)
+        → OnOk result (AreReadable (asks_of (compose_inputs first middle last certificate1 certificate2))
+        (files.now.first.now ∷ files.now.middle.now ∷ files.now.last.now
+        ∷ files.now.certificate1.now ∷ files.now.certificate2.now ∷ [])) }
+    ensures said { IfOk result (λ j. compose_says
+        (files.now.first.now ∷ files.now.middle.now ∷ files.now.last.now
+        ∷ files.now.certificate1.now ∷ files.now.certificate2.now ∷ [])
+        j.verdict j.untyped j.text.items) }
+    ensures stops { (first middle last certificate1 certificate2 : List ℕ)
+        → IfErr result (StopsAt (asks_of (compose_inputs first middle last certificate1 certificate2))
+        (files.now.first.now ∷ files.now.middle.now ∷ files.now.last.now
+        ∷ files.now.certificate1.now ∷ files.now.certificate2.now ∷ [])) }
 {
     let refused = match library_check::compose(alloc, files) {
         Ok(Composed::Yes(text)) => {
@@ -92,8 +104,10 @@ fn compose_certificates(alloc: Global, files: &ChainFiles) -> Result<Judgement, 
 
 // Why there is no verdict, by the input that cannot be read.
 const fn stop_of(uncomposed: Uncomposed) -> Stop
-    ensures { (first middle last certificate1 certificate2 : List ℕ) (files : PlainFiles) → IsUncomposed files uncomposed
-        → StopsAt (asks_of (compose_inputs first middle last certificate1 certificate2)) (files.first ∷ files.middle ∷ files.last ∷ files.certificate1 ∷ files.certificate2 ∷ []) result }
+    ensures { (first middle last certificate1 certificate2 : List ℕ) (files : PlainFiles)
+        → IsUncomposed files uncomposed
+        → StopsAt (asks_of (compose_inputs first middle last certificate1 certificate2))
+        (files.first ∷ files.middle ∷ files.last ∷ files.certificate1 ∷ files.certificate2 ∷ []) result }
 {
     match uncomposed {
         Uncomposed::First(fault) => Stop::Unreadable(Input::First, fault),

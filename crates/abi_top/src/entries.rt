@@ -20,7 +20,8 @@ pub struct Entries<'a> {
 impl<'a> Entries<'a> {
     /// The inputs and the sources of their bytes. It fails only if memory runs out.
     pub fn places(&self, alloc: Global) -> Result<Vec<Place<'a>>, NoMemory>
-        ensures { IfOk result (λ places. map plain_place places.items ≡ places_of (entries_inputs self.now.library.now)) }
+        ensures { IfOk result (λ places. map plain_place places.items
+            ≡ places_of (entries_inputs self.now.library.now)) }
     {
         Ok(vec![in alloc; Place::named(Input::Library, self.library)]?)
     }

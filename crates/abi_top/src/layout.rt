@@ -23,7 +23,8 @@ pub struct Layout<'a> {
 impl<'a> Layout<'a> {
     /// The inputs and the sources of their bytes. It fails only if memory runs out.
     pub fn places(&self, alloc: Global) -> Result<Vec<Place<'a>>, NoMemory>
-        ensures { IfOk result (λ places. map plain_place places.items ≡ places_of (layout_inputs self.now.words.library.now)) }
+        ensures { IfOk result (λ places. map plain_place places.items
+            ≡ places_of (layout_inputs self.now.words.library.now)) }
     {
         Ok(vec![in alloc; Place::named(Input::Library, self.words.library)]?)
     }

@@ -1,5 +1,5 @@
 // The top call.
-ghost use Rattle.std.specs.Prelude.{◌≡◌, ◌≢◌, ◌⊎◌, ◌≤◌, List, [], ℕ, Option, None, Some, map, All, OnOk, OnErr, IfOk};
+ghost use Rattle.std.specs.Prelude.{◌≡◌, ◌≢◌, ◌⊎◌, ◌≤◌, List, [], ℕ, Option, Some, map, All, IfOk};
 ghost use Rattle.std.specs.Io.KnownBytes.{Appends};
 ghost use Rattle.abi_base.specs.Causes.{AppendsFront, Rose, SameCounts, Unfailing};
 ghost use Rattle.abi_base.specs.declared.fault.Fault.{Fault as AnyFault};
@@ -7,16 +7,7 @@ ghost use Rattle.abi_base.specs.declared.remark.Remark.{Remark as AnyRemark};
 ghost use Rattle.abi_top.specs.Answer.{Answers, Asks, AsksForTold, HasRoom, row_of};
 ghost use Rattle.abi_top.specs.Calls.{Call, call_of};
 ghost use Rattle.abi_top.specs.Rows.{command_of};
-ghost use Rattle.abi_top.specs.Rows.App.{OnApp};
-ghost use Rattle.abi_top.specs.Rows.Check.{OnCheck};
-ghost use Rattle.abi_top.specs.Rows.Compose.{ComposesNone, OnCompose};
-ghost use Rattle.abi_top.specs.Rows.Layout.{OnLayout};
-ghost use Rattle.abi_top.specs.Rows.Listings.{OnListing};
-ghost use Rattle.abi_top.specs.Rows.Migrate.{OnMigrate};
-ghost use Rattle.abi_top.specs.Rows.Trial.{OnTrial};
-ghost use Rattle.abi_top.specs.Rows.Verify.{OnVerify};
-ghost use Rattle.abi_top.specs.Text.{accepted_text, no_tag_text, refused_text};
-ghost use Rattle.cert_check.specs.declared.refused.Refused.{Refused as Refusal};
+ghost use Rattle.abi_top.specs.Verdicts.{Agrees, Disagrees, MeansDone, MeansNo, MeansRefused, MeansYes};
 ghost use Rattle.cli_args.specs.Commands.{PlainRequest, check, plain_request, trial, usage_text};
 ghost use Rattle.cli_args.specs.ParsedArguments.{arguments_by, request as requested, help, usage};
 ghost use Rattle.cli_args.specs.Words.{texts};
@@ -30,17 +21,7 @@ ghost use Rattle.commands.specs.Served.{AreServed, AreUnfailed, IsVerdict};
 ghost use Rattle.commands.specs.Texts.{read_fault_text, unreadable_text};
 ghost use Rattle.commands.specs.declared.input.Input.{Input as AnyInput};
 ghost use Rattle.commands.specs.declared.outcome.Outcome.{Outcome as AnyOutcome};
-ghost use Rattle.library_check.specs.Applications.{AgreedFor, IsAppReportText, IsCompatibleFor, uses_for};
-ghost use Rattle.library_check.specs.Checks.{Agreed, Compatible, IsCertificateText, IsReportText};
-ghost use Rattle.library_check.specs.Compositions.{IsComposedText};
-ghost use Rattle.library_check.specs.Migrations.{IsMigratedText, IsRefusedMigration};
-ghost use Rattle.library_check.specs.Relations.{IsRelationText};
-ghost use Rattle.library_check.specs.Remarks.{remark_on};
-ghost use Rattle.library_check.specs.Verifications.{IsAcceptedText, IsRefusedText};
-ghost use Rattle.library_layout.specs.Covers.{CoversEachBit};
-ghost use Rattle.library_layout.specs.Layouts.{HasNoTag, IsLayoutText};
 ghost use Rattle.report.specs.declared.styles.report_option.ReportStyle.{ReportStyle as AnyStyle};
-ghost use Rattle.report.specs.styles.Wanted.{wanted_voices};
 ghost use Rattle.trial_libraries.specs.Limits.{most_functions};
 
 use crate::app::App;
@@ -89,86 +70,80 @@ pub fn run<'a, I: Inputs, S: Sink>(
 
     // Every outcome except `NoMemory` and `WriteFault` has its row in the table `Answers`, and the text of the row was appended
     // whole.
-    ensures answered { let call : Call = call_of I.told I.faults I.given I.started (map voice listeners.items) words.entry.now inputs.old inputs.new in
+    ensures answered { let call : Call = call_of I.told I.faults I.given I.started
+        (map voice listeners.items) words.entry.now inputs.old inputs.new in
         (IsNoMemory result.outcome → ⊥) → result.outcome ≢ Outcome.WriteFault
         → (text : List ℕ) × Answers call result.outcome text × Appends (S.held sink.old) (S.held sink.new) text }
 
-    // Yes: all inputs are readable, and the new library may replace the old one in all that the rule file does not suppress. For
-    // `check` the text is the certificate, which the checker accepts; for `verify` it says that the certificate is accepted. Either
-    // certificate shows a relation between types that proves the yes: it is closed under the rules of types, and holds the types of
-    // all compared exports. For `compose` the text is the certificate that two accepted ones compose; it is accepted for the first
-    // and the last library, and the last may replace the first. For `app` the text names the exports of the old library that the
-    // application uses and that the rule file does not drop; the new library may replace the old one in these, if all others are
-    // taken as dropped.
-    ensures yes { let call : Call = call_of I.told I.faults I.given I.started (map voice listeners.items) words.entry.now inputs.old inputs.new in
+    // Yes: all inputs are readable, and the new library may replace the old one in all that the rule file does not suppress. `MeansYes`
+    // says it for `check`, `verify`, `compose` and `app`, with the text that was appended.
+    ensures yes { let call : Call = call_of I.told I.faults I.given I.started
+        (map voice listeners.items) words.entry.now inputs.old inputs.new in
         (untyped : Option AnyRemark) → result.outcome ≡ Outcome.Judged Verdict.Yes untyped
-        → OnCheck call (λ report old new rules. Compatible old new rules × (untyped ≡ Some (remark_on old new)) × (text : List ℕ) × IsCertificateText old new rules text × IsRelationText old new rules text × Appends (S.held sink.old) (S.held sink.new) text)
-        ⊎ (OnVerify call (λ old new rules certificate. IsAcceptedText old new rules certificate × Compatible old new rules × IsRelationText old new rules certificate × Appends (S.held sink.old) (S.held sink.new) accepted_text)
-        ⊎ (OnCompose call (λ files. Compatible files.first files.last [] × (text : List ℕ) × IsComposedText files text × Appends (S.held sink.old) (S.held sink.new) text)
-        ⊎ OnApp call (λ report program old new rules. IsCompatibleFor program old new rules × (untyped ≡ Some (remark_on old new)) × Appends (S.held sink.old) (S.held sink.new) (uses_for program old new rules)))) }
+        → MeansYes call untyped (λ text. Appends (S.held sink.old) (S.held sink.new) text) }
 
     // No: all inputs are readable, and the new library may not replace the old one, or may not for the application. The texts of
     // the listeners of the requested style were printed, in order. Each listener heard all breaks, up to the first after which it
     // had heard enough; each break of types comes with the first path to it from an export. For `app` the breaks are those of
     // exports that the application uses, and of their types.
-    ensures no { let call : Call = call_of I.told I.faults I.given I.started (map voice listeners.items) words.entry.now inputs.old inputs.new in
+    ensures no { let call : Call = call_of I.told I.faults I.given I.started
+        (map voice listeners.items) words.entry.now inputs.old inputs.new in
         (untyped : Option AnyRemark) → result.outcome ≡ Outcome.Judged Verdict.No untyped
-        → OnCheck call (λ report old new rules. (Compatible old new rules → ⊥) × (untyped ≡ Some (remark_on old new)) × (text : List ℕ) × IsReportText (wanted_voices report call.voices) old new rules text × Appends (S.held sink.old) (S.held sink.new) text)
-        ⊎ OnApp call (λ report program old new rules. (IsCompatibleFor program old new rules → ⊥) × (untyped ≡ Some (remark_on old new)) × (text : List ℕ) × IsAppReportText (wanted_voices report call.voices) program old new rules text × Appends (S.held sink.old) (S.held sink.new) text) }
+        → MeansNo call untyped (λ text. Appends (S.held sink.old) (S.held sink.new) text) }
 
     // What yes means for a program that was compiled against the old library: the sonames are equal, each compared export binds to
     // one that keeps the rules of exports, and whatever the program may reach from the type of such an export, through results,
     // parameters, pointers, elements and members, it finds in the new library at the same bit of the same object, in agreement. On
     // no, this does not hold. Together with `complete`: `check` says yes exactly if the libraries agree on all such accesses, and
     // `app` exactly if they agree on all accesses from the exports that the application uses.
-    ensures yes_agreed { let call : Call = call_of I.told I.faults I.given I.started (map voice listeners.items) words.entry.now inputs.old inputs.new in
-        (untyped : Option AnyRemark) → result.outcome ≡ Outcome.Judged Verdict.Yes untyped
-        → OnCheck call (λ report old new rules. Agreed old new rules)
-        ⊎ (OnVerify call (λ old new rules certificate. Agreed old new rules)
-        ⊎ (OnCompose call (λ files. Agreed files.first files.last []) ⊎ OnApp call (λ report program old new rules. AgreedFor program old new rules))) }
-    ensures no_agreed { let call : Call = call_of I.told I.faults I.given I.started (map voice listeners.items) words.entry.now inputs.old inputs.new in
-        (untyped : Option AnyRemark) → result.outcome ≡ Outcome.Judged Verdict.No untyped
-        → OnCheck call (λ report old new rules. Agreed old new rules → ⊥) ⊎ OnApp call (λ report program old new rules. AgreedFor program old new rules → ⊥) }
+    ensures yes_agreed { let call : Call = call_of I.told I.faults I.given I.started
+        (map voice listeners.items) words.entry.now inputs.old inputs.new in
+        (untyped : Option AnyRemark) → result.outcome ≡ Outcome.Judged Verdict.Yes untyped → Agrees call }
+    ensures no_agreed { let call : Call = call_of I.told I.faults I.given I.started
+        (map voice listeners.items) words.entry.now inputs.old inputs.new in
+        (untyped : Option AnyRemark) → result.outcome ≡ Outcome.Judged Verdict.No untyped → Disagrees call }
 
     // A library may replace itself, whatever a rule file suppresses: if the known bytes of both names are the same, the answer is
     // not no.
-    ensures itself { (rules : Option (List ℕ)) (report : AnyStyle) (old_name new_name bytes : List ℕ) (untyped : Option AnyRemark) → arguments_by (texts words.entry.now) ≡ requested (check rules report old_name new_name)
-        → I.told inputs.old old_name ≡ Some bytes → I.told inputs.old new_name ≡ Some bytes → result.outcome ≢ Outcome.Judged Verdict.No untyped }
+    ensures itself { (rules : Option (List ℕ)) (report : AnyStyle) (old_name new_name bytes : List ℕ) (untyped : Option AnyRemark)
+        → arguments_by (texts words.entry.now) ≡ requested (check rules report old_name new_name)
+        → I.told inputs.old old_name ≡ Some bytes → I.told inputs.old new_name ≡ Some bytes
+        → result.outcome ≢ Outcome.Judged Verdict.No untyped }
 
     // Refused: all inputs are readable, and the text names the first condition that the certificate, or the migrated certificate,
     // does not meet; or the first of two certificates that is not accepted, with its condition; or what is lost between two
     // accepted ones; or it says that no structure of the library has the tag.
-    ensures refused { let call : Call = call_of I.told I.faults I.given I.started (map voice listeners.items) words.entry.now inputs.old inputs.new in
+    ensures refused { let call : Call = call_of I.told I.faults I.given I.started
+        (map voice listeners.items) words.entry.now inputs.old inputs.new in
         (untyped : Option AnyRemark) → result.outcome ≡ Outcome.Judged Verdict.Refused untyped
-        → OnVerify call (λ old new rules certificate. (refusal : Refusal) × IsRefusedText old new rules certificate refusal × Appends (S.held sink.old) (S.held sink.new) (refused_text refusal))
-        ⊎ (OnMigrate call (λ old new rules certificate. (refusal : Refusal) × IsRefusedMigration old new rules certificate refusal × Appends (S.held sink.old) (S.held sink.new) (refused_text refusal))
-        ⊎ (OnCompose call (λ files. ComposesNone files (λ line. Appends (S.held sink.old) (S.held sink.new) line))
-        ⊎ OnLayout call (λ library tag. HasNoTag library tag × Appends (S.held sink.old) (S.held sink.new) no_tag_text))) }
+        → MeansRefused call (λ text. Appends (S.held sink.old) (S.held sink.new) text) }
 
     // Done: the library is readable, and a line was printed for each of its entries, or for each of its exports; or the lines of a
     // trial were printed; or the migrated certificate, which is accepted for two readable libraries, so that the new one may
-    // replace the old one; or the layout of the structure with the tag. In a layout without an overlap and without a member that
-    // ends outside, each bit below the size of the structure lies in exactly one member, hole or padding; any such clash is named
-    // by a row.
-    ensures done { let call : Call = call_of I.told I.faults I.given I.started (map voice listeners.items) words.entry.now inputs.old inputs.new in
+    // replace the old one; or the layout of the structure with the tag, in which each bit has its row.
+    ensures done { let call : Call = call_of I.told I.faults I.given I.started
+        (map voice listeners.items) words.entry.now inputs.old inputs.new in
         (untyped : Option AnyRemark) → result.outcome ≡ Outcome.Judged Verdict.Done untyped
-        → OnListing call (λ text. Appends (S.held sink.old) (S.held sink.new) text)
-        ⊎ (OnTrial call (λ text. Appends (S.held sink.old) (S.held sink.new) text)
-        ⊎ (OnMigrate call (λ old new rules certificate. Compatible old new rules × (text : List ℕ) × IsMigratedText old new rules certificate text × Appends (S.held sink.old) (S.held sink.new) text)
-        ⊎ OnLayout call (λ library tag. (text : List ℕ) × IsLayoutText library tag text × CoversEachBit library tag text × Appends (S.held sink.old) (S.held sink.new) text))) }
+        → MeansDone call (λ text. Appends (S.held sink.old) (S.held sink.new) text) }
 
     // If the arguments make a request, the bytes of all its inputs are known and readable, and neither reading nor the sink failed,
     // then the outcome is a verdict that the command's row allows, with the text that was appended; or memory ran out.
-    ensures complete { let call : Call = call_of I.told I.faults I.given I.started (map voice listeners.items) words.entry.now inputs.old inputs.new in
-        (asked : PlainRequest) (all : List (List ℕ)) → arguments_by (texts words.entry.now) ≡ requested asked → AreServed call.reading (row_of call asked).inputs all
+    ensures complete { let call : Call = call_of I.told I.faults I.given I.started
+        (map voice listeners.items) words.entry.now inputs.old inputs.new in
+        (asked : PlainRequest) (all : List (List ℕ)) → arguments_by (texts words.entry.now) ≡ requested asked
+        → AreServed call.reading (row_of call asked).inputs all
         → (Rose (S.faults sink.old) (S.faults sink.new) → ⊥) → (IsNoMemory result.outcome → ⊥)
-        → IsVerdict (row_of call asked).says all result.outcome (λ text. Appends (S.held sink.old) (S.held sink.new) text) }
+        → IsVerdict (row_of call asked).says all result.outcome
+        (λ text. Appends (S.held sink.old) (S.held sink.new) text) }
 
     // If the arguments make a request, the bytes of all its inputs are known, and neither reading nor the sink failed, then the
     // first fault of the inputs is the outcome; or memory ran out.
-    ensures first_fault { let call : Call = call_of I.told I.faults I.given I.started (map voice listeners.items) words.entry.now inputs.old inputs.new in
-        (asked : PlainRequest) (all : List (List ℕ)) (which : AnyInput) (fault : AnyFault) → arguments_by (texts words.entry.now) ≡ requested asked
-        → TellsEach call.reading.told (places_of (row_of call asked).inputs) all → AreUnfailed call.reading (row_of call asked).inputs
+    ensures first_fault { let call : Call = call_of I.told I.faults I.given I.started
+        (map voice listeners.items) words.entry.now inputs.old inputs.new in
+        (asked : PlainRequest) (all : List (List ℕ)) (which : AnyInput) (fault : AnyFault)
+        → arguments_by (texts words.entry.now) ≡ requested asked
+        → TellsEach call.reading.told (places_of (row_of call asked).inputs) all
+        → AreUnfailed call.reading (row_of call asked).inputs
         → FaultOfAll (asks_of (row_of call asked).inputs) all which fault
         → (Rose (S.faults sink.old) (S.faults sink.new) → ⊥) → (IsNoMemory result.outcome → ⊥)
         → result.outcome ≡ Outcome.Unreadable which fault }
@@ -176,50 +151,60 @@ pub fn run<'a, I: Inputs, S: Sink>(
     // If no call of the inputs is made to fail, and the bytes of all inputs that the arguments name are known, no fault count of
     // the inputs rises.
     ensures steady_inputs { Unfailing I.is_made_to_fail inputs.old
-        → AsksForTold (call_of I.told I.faults I.given I.started (map voice listeners.items) words.entry.now inputs.old inputs.new)
+        → AsksForTold (call_of I.told I.faults I.given I.started
+        (map voice listeners.items) words.entry.now inputs.old inputs.new)
         → SameCounts (I.faults inputs.old) (I.faults inputs.new) }
 
     // If no call of the sink is made to fail, and it has room for any answer to the call, its fault count does not rise.
     ensures steady_sink { (room : ℕ) → Unfailing S.is_made_to_fail sink.old → S.room sink.old ≡ Some room
-        → HasRoom (call_of I.told I.faults I.given I.started (map voice listeners.items) words.entry.now inputs.old inputs.new) room
+        → HasRoom (call_of I.told I.faults I.given I.started
+        (map voice listeners.items) words.entry.now inputs.old inputs.new) room
         → S.faults sink.new ≡ S.faults sink.old }
 
     // Unreadable: this input has this fault, by its length or by its bytes, and no input before it has one; lengths are checked
     // before all bytes. The text names both. If an input is too long, it is the one that was started last.
-    ensures unreadable { let call : Call = call_of I.told I.faults I.given I.started (map voice listeners.items) words.entry.now inputs.old inputs.new in
+    ensures unreadable { let call : Call = call_of I.told I.faults I.given I.started
+        (map voice listeners.items) words.entry.now inputs.old inputs.new in
         (which : AnyInput) (fault : AnyFault) → result.outcome ≡ Outcome.Unreadable which fault
         → Asks call (λ asked. IsFaulty call.reading (row_of call asked).inputs which fault)
         × Appends (S.held sink.old) (S.held sink.new) (unreadable_text which fault) }
 
     // Read fault: in this call the fault count rose for the name that the arguments give for this input, the input was started
     // last, and no input before it is known to have too many bytes.
-    ensures read_fault { let call : Call = call_of I.told I.faults I.given I.started (map voice listeners.items) words.entry.now inputs.old inputs.new in
+    ensures read_fault { let call : Call = call_of I.told I.faults I.given I.started
+        (map voice listeners.items) words.entry.now inputs.old inputs.new in
         (which : AnyInput) → result.outcome ≡ Outcome.ReadFault which
         → Asks call (λ asked. FailsToRead call.reading (places_of (row_of call asked).inputs) which)
         × Appends (S.held sink.old) (S.held sink.new) (read_fault_text which) }
 
     // The outcome is the usage exactly if the arguments are wrong, unless memory runs out or writing fails.
-    ensures usage { result.outcome ≡ Outcome.Usage → (arguments_by (texts words.entry.now) ≡ usage) × Appends (S.held sink.old) (S.held sink.new) usage_text }
+    ensures usage { result.outcome ≡ Outcome.Usage
+        → (arguments_by (texts words.entry.now) ≡ usage) × Appends (S.held sink.old) (S.held sink.new) usage_text }
     ensures wrong_words { arguments_by (texts words.entry.now) ≡ usage
         → (result.outcome ≡ Outcome.Usage) ⊎ (IsNoMemory result.outcome ⊎ (result.outcome ≡ Outcome.WriteFault)) }
 
     // The outcome is the help exactly if the arguments request it, unless memory runs out or writing fails.
-    ensures help { result.outcome ≡ Outcome.Help → (arguments_by (texts words.entry.now) ≡ help) × Appends (S.held sink.old) (S.held sink.new) usage_text }
+    ensures help { result.outcome ≡ Outcome.Help
+        → (arguments_by (texts words.entry.now) ≡ help) × Appends (S.held sink.old) (S.held sink.new) usage_text }
     ensures help_words { arguments_by (texts words.entry.now) ≡ help
         → (result.outcome ≡ Outcome.Help) ⊎ (IsNoMemory result.outcome ⊎ (result.outcome ≡ Outcome.WriteFault)) }
 
     // Write fault: a write failed in this call, after a prefix of a text that belongs to another possible outcome.
     ensures write_fault { result.outcome ≡ Outcome.WriteFault → Rose (S.faults sink.old) (S.faults sink.new) }
-    ensures front { let call : Call = call_of I.told I.faults I.given I.started (map voice listeners.items) words.entry.now inputs.old inputs.new in
+    ensures front { let call : Call = call_of I.told I.faults I.given I.started
+        (map voice listeners.items) words.entry.now inputs.old inputs.new in
         result.outcome ≡ Outcome.WriteFault
-        → (outcome : AnyOutcome) × (text : List ℕ) × Answers call outcome text × AppendsFront (S.held sink.old) (S.held sink.new) text }
+        → (outcome : AnyOutcome) × (text : List ℕ) × Answers call outcome text
+        × AppendsFront (S.held sink.old) (S.held sink.new) text }
 
     // If memory runs out, the sink is unchanged.
     ensures no_memory { IsNoMemory result.outcome → sink.new ≡ sink.old }
 
     // The names of the inputs are those in the arguments, in the order of the command's row.
-    ensures files { (asked : PlainRequest) → arguments_by (texts words.entry.now) ≡ requested asked → (IsNoMemory result.outcome → ⊥)
-        → map plain_file result.files.items ≡ files_of (places_of (command_of (map voice listeners.items) asked).inputs) }
+    ensures files { (asked : PlainRequest) → arguments_by (texts words.entry.now) ≡ requested asked
+        → (IsNoMemory result.outcome → ⊥)
+        → map plain_file result.files.items
+        ≡ files_of (places_of (command_of (map voice listeners.items) asked).inputs) }
 {
     a_file_may_replace_itself();
     compatible_is_that_accesses_agree();
@@ -249,11 +234,15 @@ fn answer_to<'a, I: Inputs>(
     listeners: Vec<Box<dyn Listener>>,
 ) -> Result<Answer<'a>, NoMemory>
     requires { All (λ listener. heard listener ≡ []) listeners.items }
-    ensures answers { IfOk result (λ a. Answers (call_of I.told I.faults I.given I.started (map voice listeners.items) words.entry.now inputs.old inputs.new) a.outcome a.text.items) }
+    ensures answers { let call : Call = call_of I.told I.faults I.given I.started
+        (map voice listeners.items) words.entry.now inputs.old inputs.new in
+        IfOk result (λ a. Answers call a.outcome a.text.items) }
     ensures steady { Unfailing I.is_made_to_fail inputs.old
-        → AsksForTold (call_of I.told I.faults I.given I.started (map voice listeners.items) words.entry.now inputs.old inputs.new)
+        → AsksForTold (call_of I.told I.faults I.given I.started
+        (map voice listeners.items) words.entry.now inputs.old inputs.new)
         → SameCounts (I.faults inputs.old) (I.faults inputs.new) }
-    ensures files { IfOk result (λ a. (asked : PlainRequest) → arguments_by (texts words.entry.now) ≡ requested asked → map plain_file a.files.items ≡ files_of (places_of (command_of (map voice listeners.items) asked).inputs)) }
+    ensures files { IfOk result (λ a. (asked : PlainRequest) → arguments_by (texts words.entry.now) ≡ requested asked
+        → map plain_file a.files.items ≡ files_of (places_of (command_of (map voice listeners.items) asked).inputs)) }
 {
     a_trial_is_of_a_count();
     match parse_arguments(alloc, words)? {
@@ -301,9 +290,11 @@ fn answer_of<'a, I: Inputs>(
     requires counted { (count : ℕ) → plain_request request ≡ trial count → (1 ≤ count) × (count ≤ most_functions) }
     requires unheard { All (λ listener. heard listener ≡ []) listeners.items }
     ensures replies { let row = command_of (map voice listeners.items) (plain_request request.entry) in
-        IfOk result (λ a. Replies (reading_of I.told I.faults I.given I.started inputs.old inputs.new) row.inputs row.says a.outcome a.text.items) }
+        let reading = reading_of I.told I.faults I.given I.started inputs.old inputs.new in
+        IfOk result (λ a. Replies reading row.inputs row.says a.outcome a.text.items) }
     ensures steady { let row = command_of (map voice listeners.items) (plain_request request.entry) in
-        Unfailing I.is_made_to_fail inputs.old → AreTold (I.told inputs.old) (places_of row.inputs) → SameCounts (I.faults inputs.old) (I.faults inputs.new) }
+        Unfailing I.is_made_to_fail inputs.old → AreTold (I.told inputs.old) (places_of row.inputs)
+        → SameCounts (I.faults inputs.old) (I.faults inputs.new) }
     ensures files { let row = command_of (map voice listeners.items) (plain_request request.entry) in
         IfOk result (λ a. map plain_file a.files.items ≡ files_of (places_of row.inputs)) }
 {

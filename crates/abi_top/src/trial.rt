@@ -46,7 +46,8 @@ fn make_one(alloc: Global, count: u32, side: Side) -> Result<Vec<u8>, NoMemory>
 impl Trial {
     /// The inputs and the sources of their bytes. It fails only if memory runs out.
     pub fn places<'a>(&self, alloc: Global) -> Result<Vec<Place<'a>>, NoMemory>
-        ensures places { IfOk result (λ places. map plain_place places.items ≡ places_of (trial_inputs self.now.count)) }
+        ensures places { IfOk result (λ places. map plain_place places.items
+            ≡ places_of (trial_inputs self.now.count)) }
         ensures short { AreOwnShort (places_of (trial_inputs self.now.count)) }
     {
         made_libraries_are_no_longer_than_inputs();

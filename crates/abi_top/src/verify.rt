@@ -24,7 +24,8 @@ pub struct Verify<'a> {
 impl<'a> Verify<'a> {
     /// The inputs and the sources of their bytes. It fails only if memory runs out.
     pub fn places(&self, alloc: Global) -> Result<Vec<Place<'a>>, NoMemory>
-        ensures { IfOk result (λ places. map plain_place places.items ≡ places_of (verify_inputs (plain_word self.now.words.rules) self.now.words.old.now self.now.words.new.now self.now.words.certificate.now)) }
+        ensures { let words = self.now.words in IfOk result (λ places. map plain_place places.items
+            ≡ places_of (verify_inputs (plain_word words.rules) words.old.now words.new.now words.certificate.now)) }
     {
         let rules = Place::named_or_empty(alloc, Input::Rules, self.words.rules);
         Ok(vec![in alloc;
@@ -37,7 +38,8 @@ impl<'a> Verify<'a> {
 }
 
 impl Command for Verify<'_> {
-    ghost inputs = { λ c. verify_inputs (plain_word c.words.rules) c.words.old.now c.words.new.now c.words.certificate.now };
+    ghost inputs = { λ c. verify_inputs (plain_word c.words.rules)
+        c.words.old.now c.words.new.now c.words.certificate.now };
 
     ghost says = { λ c voices. verify_says };
 
@@ -63,9 +65,14 @@ fn verify_certificate(
 ) -> Result<Judgement, Stop>
     requires old_short { length old.now ≤ input_limit }
     requires new_short { length new.now ≤ input_limit }
-    ensures readable { (rules_name : _) (old_name new_name certificate_name : List ℕ) → OnOk result (AreReadable (asks_of (verify_inputs rules_name old_name new_name certificate_name)) (old.now ∷ new.now ∷ rules.now ∷ certificate.now ∷ [])) }
-    ensures said { IfOk result (λ j. verify_says (old.now ∷ new.now ∷ rules.now ∷ certificate.now ∷ []) j.verdict j.untyped j.text.items) }
-    ensures stops { (rules_name : _) (old_name new_name certificate_name : List ℕ) → IfErr result (StopsAt (asks_of (verify_inputs rules_name old_name new_name certificate_name)) (old.now ∷ new.now ∷ rules.now ∷ certificate.now ∷ [])) }
+    ensures readable { (rules_name : _) (old_name new_name certificate_name : List ℕ)
+        → OnOk result (AreReadable (asks_of (verify_inputs rules_name old_name new_name certificate_name))
+        (old.now ∷ new.now ∷ rules.now ∷ certificate.now ∷ [])) }
+    ensures said { IfOk result (λ j. verify_says
+        (old.now ∷ new.now ∷ rules.now ∷ certificate.now ∷ []) j.verdict j.untyped j.text.items) }
+    ensures stops { (rules_name : _) (old_name new_name certificate_name : List ℕ)
+        → IfErr result (StopsAt (asks_of (verify_inputs rules_name old_name new_name certificate_name))
+        (old.now ∷ new.now ∷ rules.now ∷ certificate.now ∷ [])) }
 {
     match library_check::verify(alloc, old, new, rules, certificate) {
         Ok(Verified::Accepted) => Ok(Judgement {

@@ -9,11 +9,12 @@ use Rattle.commands.specs.Commands.{Wanted, named}
 use Rattle.commands.specs.declared.input.Input.TheVariants.{Old, New}
 use Rattle.commands.specs.declared.verdict.Verdict.{Verdict}
 use Rattle.commands.specs.declared.verdict.Verdict.TheVariants.{Yes, No, Refused, Done}
-use Rattle.library_check.specs.Checks.{Compatible, IsCertificateText, IsReportText}
+use Rattle.library_check.specs.Checks.{Agreed, Compatible, IsCertificateText, IsReportText}
 use Rattle.library_check.specs.Relations.{IsRelationText}
 use Rattle.library_check.specs.Remarks.{remark_on}
 use Rattle.report.specs.Listening.{Voice}
 use Rattle.report.specs.declared.styles.report_option.ReportStyle.{ReportStyle}
+use Rattle.report.specs.styles.Wanted.{wanted_voices}
 
 abbrev pub check_inputs : (rules : Option (List ℕ)) (old new : List ℕ) → List Wanted
 check_inputs rules old new = library_at Old (named old) ∷ library_at New (named new) ∷ rules_at rules ∷ []
@@ -33,3 +34,25 @@ abbrev pub OnCheck : Call → (ReportStyle → List ℕ → List ℕ → List �
 OnCheck call P =
     (rules_name : Option (List ℕ)) × (report : ReportStyle) × (old_name new_name old new rules : List ℕ)
     × Reads call (check rules_name report old_name new_name) (check_inputs rules_name old_name new_name) (old ∷ new ∷ rules ∷ []) × P report old new rules
+
+-- ---- what `run` promises of `check`, where P holds for the text that was appended
+
+-- Yes: the new library may replace the old one in all that the rule file does not suppress. The text is the certificate, which the
+-- checker accepts; it shows a relation between types that proves the yes.
+abbrev pub CheckYes : Call → Option Remark → (List ℕ → Type 0) → Type 0
+CheckYes call untyped P = OnCheck call (λ report old new rules.
+    Compatible old new rules × (untyped ≡ Some (remark_on old new))
+    × (text : List ℕ) × IsCertificateText old new rules text × IsRelationText old new rules text × P text)
+
+-- No: the new library may not replace the old one. The text is what the listeners of the requested style made of the breaks.
+abbrev pub CheckNo : Call → Option Remark → (List ℕ → Type 0) → Type 0
+CheckNo call untyped P = OnCheck call (λ report old new rules.
+    (Compatible old new rules → ⊥) × (untyped ≡ Some (remark_on old new))
+    × (text : List ℕ) × IsReportText (wanted_voices report call.voices) old new rules text × P text)
+
+-- the libraries agree on all accesses from the compared exports, or they do not
+abbrev pub CheckAgrees : Call → Type 0
+CheckAgrees call = OnCheck call (λ report old new rules. Agreed old new rules)
+
+abbrev pub CheckDisagrees : Call → Type 0
+CheckDisagrees call = OnCheck call (λ report old new rules. Agreed old new rules → ⊥)

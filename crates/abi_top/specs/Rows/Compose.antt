@@ -11,7 +11,8 @@ use Rattle.commands.specs.Commands.{Wanted, named}
 use Rattle.commands.specs.declared.input.Input.TheVariants as input
 use Rattle.commands.specs.declared.verdict.Verdict.{Verdict}
 use Rattle.commands.specs.declared.verdict.Verdict.TheVariants.{Yes, Refused}
-use Rattle.library_check.specs.Compositions.{PlainFiles, IsComposition}
+use Rattle.library_check.specs.Checks.{Agreed, Compatible}
+use Rattle.library_check.specs.Compositions.{PlainFiles, IsComposedText, IsComposition}
 use Rattle.library_check.specs.declared.composing.Composed.{Composed}
 use Rattle.library_check.specs.declared.composing.Composed.TheVariants as composed
 use Rattle.library_check.specs.declared.composing.Composed.TheVariants.{First, Second, Between}
@@ -51,3 +52,19 @@ OnCompose call P =
     (first_name middle_name last_name certificate1_name certificate2_name : List ℕ) × (files : PlainFiles)
     × Reads call (compose first_name middle_name last_name certificate1_name certificate2_name) (compose_inputs first_name middle_name last_name certificate1_name certificate2_name)
     (files.first ∷ files.middle ∷ files.last ∷ files.certificate1 ∷ files.certificate2 ∷ []) × P files
+
+-- ---- what `run` promises of `compose`, where P holds for the text that was appended
+
+-- Yes: the text is the certificate that the two accepted ones compose. It is accepted for the first and the last library, and the last
+-- may replace the first.
+abbrev pub ComposeYes : Call → (List ℕ → Type 0) → Type 0
+ComposeYes call P = OnCompose call (λ files. Compatible files.first files.last [] × (text : List ℕ) × IsComposedText files text × P text)
+
+-- Refused: the text names the first of the certificates that is not accepted, with its condition; or what is lost between two accepted
+-- ones.
+abbrev pub ComposeRefused : Call → (List ℕ → Type 0) → Type 0
+ComposeRefused call P = OnCompose call (λ files. ComposesNone files P)
+
+-- the first and the last library agree on all accesses from the compared exports
+abbrev pub ComposeAgrees : Call → Type 0
+ComposeAgrees call = OnCompose call (λ files. Agreed files.first files.last [])

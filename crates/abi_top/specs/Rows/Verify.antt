@@ -11,7 +11,7 @@ use Rattle.commands.specs.Commands.{Wanted, named}
 use Rattle.commands.specs.declared.input.Input.TheVariants.{Old, New, Certificate}
 use Rattle.commands.specs.declared.verdict.Verdict.{Verdict}
 use Rattle.commands.specs.declared.verdict.Verdict.TheVariants.{Yes, No, Refused, Done}
-use Rattle.library_check.specs.Checks.{Compatible}
+use Rattle.library_check.specs.Checks.{Agreed, Compatible}
 use Rattle.library_check.specs.Relations.{IsRelationText}
 use Rattle.library_check.specs.Verifications.{IsAcceptedText, IsRefusedText}
 
@@ -34,3 +34,20 @@ abbrev pub OnVerify : Call → (List ℕ → List ℕ → List ℕ → List ℕ 
 OnVerify call P =
     (rules_name : Option (List ℕ)) × (old_name new_name certificate_name old new rules certificate : List ℕ)
     × Reads call (verify rules_name old_name new_name certificate_name) (verify_inputs rules_name old_name new_name certificate_name) (old ∷ new ∷ rules ∷ certificate ∷ []) × P old new rules certificate
+
+-- ---- what `run` promises of `verify`, where P holds for the text that was appended
+
+-- Yes: the certificate is accepted, so that the new library may replace the old one; it shows a relation between types that proves
+-- the yes.
+abbrev pub VerifyYes : Call → (List ℕ → Type 0) → Type 0
+VerifyYes call P = OnVerify call (λ old new rules certificate.
+    IsAcceptedText old new rules certificate × Compatible old new rules × IsRelationText old new rules certificate × P accepted_text)
+
+-- refused: the text names the first condition that the certificate does not meet
+abbrev pub VerifyRefused : Call → (List ℕ → Type 0) → Type 0
+VerifyRefused call P = OnVerify call (λ old new rules certificate.
+    (refusal : Refusal) × IsRefusedText old new rules certificate refusal × P (refused_text refusal))
+
+-- the libraries agree on all accesses from the compared exports
+abbrev pub VerifyAgrees : Call → Type 0
+VerifyAgrees call = OnVerify call (λ old new rules certificate. Agreed old new rules)
