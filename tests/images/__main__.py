@@ -1,6 +1,6 @@
 """Runs the program on images that are built by hand, and compares its answers with those of the rows.
 
-usage: python3 tests/images ABI GRAPH_LINES FAULTY_LIBRARY CRATES
+usage: python3 tests/images ABI GRAPH_LINES FAULTY_LIBRARY
 """
 
 import os
@@ -14,9 +14,9 @@ from pathlib import Path
 
 import answers
 import applications
+import calls
 import damage
 import devices
-import dumps
 import entries
 import faults
 import growth
@@ -29,7 +29,7 @@ import typed
 import versions
 from cases import Case, Filled
 
-TABLES = [answers, faults, versions, entries, typed, damage, devices, growth, rings, joined, applications, limits]
+TABLES = [answers, faults, versions, entries, typed, damage, devices, growth, rings, joined, applications, limits, calls]
 
 PIECE = 1 << 20
 
@@ -109,10 +109,7 @@ def laid_out() -> Iterator[str]:
 
 
 def main() -> int:
-    program, graph_lines, faulty, crates = sys.argv[1:]
-    others = dumps.differing(Path(crates) / "test_program" / "src" / "images.rt")
-    if others:
-        raise Wrong(f"test_program has other images: {others}")
+    program, graph_lines, faulty = sys.argv[1:]
     cases = [case for table in TABLES for case in table.cases()]
     counts = Counter(laid_out())
     with ThreadPoolExecutor(os.cpu_count()) as pool:

@@ -1,6 +1,6 @@
 """Checks each row of the tables. Ends with 1 at the first row that a program answers in another way.
 
-usage: python3 -m made ABI ABI_JSON GRAPH_LINES FOLDER
+usage: python3 -m made ABI ABI_JSON GRAPH_LINES TRIAL_LIBRARY FOLDER
 """
 
 from __future__ import annotations
@@ -9,8 +9,8 @@ import sys
 from pathlib import Path
 from typing import Callable
 
-from . import certificates, rules, types, units
-from .programs import Runs
+from . import agreement, arguments, certificates, rules, sentences, types, units
+from .programs import Programs, Runs
 
 TABLES = Path(__file__).parent / "tables"
 Row = list[str]
@@ -18,7 +18,7 @@ Row = list[str]
 
 def table(name: str) -> tuple[list[str], list[Row]]:
     """The remarks at the head of a table, which end with an empty line, and the cells of its rows."""
-    head, rows = (TABLES / f"{name}.txt").read_text().split("\n\n", 1)
+    head, rows = (TABLES / f"{name}.txt").read_text(encoding="utf-8").split("\n\n", 1)
     return head.splitlines(), [row.split("|") for row in rows.splitlines()]
 
 
@@ -53,6 +53,8 @@ def check(runs: Runs) -> int:
             each("breaks", lambda row: breaks(runs, row)),
             each("alike", lambda row: (types.alike(runs, row[1], row[2], int(row[3])), f"{row[4]}|{row[5]}")),
             each("sides", lambda row: (types.sides(runs, row[1:6]), row[6])),
+            each("rules", lambda row: (types.rules(runs, row[1], row[2]), row[3])),
+            each("ways", lambda row: (types.ways(runs, row[0]), f"{row[1]}|{row[2]}")),
             each("written", lambda row: ("|".join(certificates.written(runs, row[1:5])), "|".join(row[5:]))),
             each("certificates", lambda row: (certificates.judged(runs, row[1], row[2]), row[3])),
             each("certificate_texts", lambda row: (certificates.fault_of_text(runs, row[0], row[1]), row[2])),
@@ -74,10 +76,39 @@ def check(runs: Runs) -> int:
     )
 
 
+def check_words(runs: Runs) -> int:
+    """Checks the tables of arguments and sentences, and returns the number of rows."""
+    return sum(
+        [
+            each("words", lambda row: (arguments.meaning(runs, row[0]), row[1])),
+            each("wrong_words", lambda row: (arguments.wrong(runs, row[0]), row[1])),
+            each("trial_lengths", lambda row: (arguments.lengths(runs, row[0]), row[1])),
+            each("file_faults", lambda row: (sentences.of_file(runs, sentences.bytes_of(row[1])), f"{row[0]}|{row[2]}")),
+            each("place_faults", lambda row: (sentences.of_place(runs, row[1]), f"{row[0]}|{row[2]}")),
+            each("paths", lambda row: (sentences.of_path(runs, row[0]), row[1])),
+            each("untyped", lambda row: (sentences.untyped(runs, row[0]), row[1])),
+            each("lost", lambda row: (sentences.numbered(sentences.lost(runs, row[0], row[1]), -1, row[3]), f"{row[2]}|{row[3]}")),
+            each("outcomes", lambda row: (sentences.numbered(sentences.beside(runs, row[0]), 0, row[2]), f"{row[1]}|{row[2]}")),
+            each("rule_comments", lambda row: (sentences.comments(runs, row[0]), row[1])),
+        ]
+    )
+
+
+def check_accesses(runs: Runs) -> int:
+    """Compares the answers on graphs of types with a walk over all accesses, and returns the number of pairs of graphs."""
+    pairs = 0
+    for name, compared in (("worked", agreement.check_worked), ("small", agreement.check_small), ("random", agreement.check_random)):
+        counts = compared(runs)
+        print(f"{name} graphs: all accesses land in {counts.landing} pairs, and not in {counts.missing}")
+        pairs += counts.landing + counts.missing
+    return pairs
+
+
 def main(words: list[str]) -> int:
-    """Checks all tables, given the paths of the programs and a folder."""
-    abi, abi_json, graph_lines, folder = words
-    print(check(Runs(abi, abi_json, graph_lines, Path(folder))))
+    """Checks all tables and graphs, given the paths of the programs and a folder."""
+    *programs, folder = words
+    runs = Runs(Programs(*programs), Path(folder))
+    print(check(runs) + check_words(runs) + check_accesses(runs))
     return 0
 
 

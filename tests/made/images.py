@@ -22,7 +22,7 @@ VERSYM_HIDDEN = 0x8000
 
 @dataclass(frozen=True)
 class Symbol:
-    """An exported symbol. An empty version is none; a hidden one is not the default of its name."""
+    """An exported symbol, or an imported one. An empty version is none; a hidden one is not the default of its name."""
 
     name: str
     kind: str
@@ -30,6 +30,7 @@ class Symbol:
     value: int
     version: str = ""
     hidden: bool = False
+    imported: bool = False
 
 
 class Strings:
@@ -90,7 +91,7 @@ class Image:
         data = bytes(24)
         for symbol in self.symbols:
             info = STB_GLOBAL << 4 | KINDS[symbol.kind]
-            data += struct.pack("<IBBHQQ", strings.add(symbol.name), info, 0, 1, symbol.value, symbol.size)
+            data += struct.pack("<IBBHQQ", strings.add(symbol.name), info, 0, 0 if symbol.imported else 1, symbol.value, symbol.size)
         return data
 
     def _version_index(self, symbol: Symbol) -> int:

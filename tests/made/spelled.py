@@ -9,7 +9,8 @@ count of an array or a vector), `/` and its name, `^` and its alignment, `!` if 
     enum:4 A=0 B=-1                         enumerators
     array:8 >1  vector:4 >1                 the type of the elements
     def/t >1  const >1                      a typedef, and a constant type
-    fn >0 >2 ...                            the type of the result, those of the parameters, and whether more may follow
+    fn >0 >2 ...                            the type of the result, those of the parameters, and whether more may follow; also sub, the
+                                            type of a function that is no export
     var >1                                  a variable, for the export of an object
 
 A function or a variable with the number n has the address 4096 + 16 * n. The exports of a library are words after its soname, which is
@@ -34,7 +35,10 @@ from .entries import (
 )
 from .images import Image, Symbol
 
-TAGS = {"ptr": 0x0F, "struct": 0x13, "union": 0x17, "enum": 0x04, "array": 0x01, "vector": 0x01, "def": 0x16, "const": 0x26, "fn": 0x2E, "var": 0x34}
+TAGS = {
+    "ptr": 0x0F, "struct": 0x13, "union": 0x17, "enum": 0x04, "array": 0x01, "vector": 0x01,
+    "def": 0x16, "const": 0x26, "fn": 0x2E, "sub": 0x15, "var": 0x34,
+}
 # The encodings of scalars (DWARF 5, section 7.8).
 ENCODINGS = {"none": 0x00, "bool": 0x02, "complex": 0x03, "float": 0x04, "int": 0x05, "uint": 0x07, "char": 0x06}
 TAG_BASE, TAG_MEMBER, TAG_ENUMERATOR, TAG_SUBRANGE, TAG_PARAMETER, TAG_UNSPECIFIED = 0x24, 0x0D, 0x28, 0x21, 0x05, 0x18

@@ -97,3 +97,47 @@ def layout(runs: Runs, size: str, members: str) -> str:
     assert first.split()[:4] == ["layout", "s", "size", size], first
     assert first.endswith(" overlaps") == any(line.split()[0] in ("overlap", "outside") for line in lines), first
     return ";".join(lines)
+
+
+def _part_of(detail: str, words: list[str]) -> int:
+    # The number of the part that a detail names, among the parts of the old type; of a function its result is the first.
+    kind, _, name = detail.partition(" ")
+    if kind == "result":
+        return 0
+    name = name.split()[0] if name else ""
+    if kind == "param":
+        return int(name)
+    if kind not in ("member", "enumerator"):
+        return 0
+    named, _, number = name.partition("#")
+    places = [place for place, word in enumerate(words) if re.split("[@=]", word)[0] == named]
+    return places[int(number or 1) - 1]
+
+
+def rules(runs: Runs, old: str, new: str) -> str:
+    """The rules that the last of these types break, each with the number of its part. A variable points to them."""
+    for name, spelled in {"old": old, "new": new}.items():
+        number = len(spelled.split(";"))
+        runs.write(name, library(f"{spelled};ptr >{number};var >{number + 1}", f"- v::object:8:{number + 2}"))
+    told = runs.abi("check", "old", "new")
+    words = old.split(";")[-1].split()[1:]
+    found = re.findall(r"^(L\d+) v target: (.*)$", told, re.M) if runs.status == 1 else []
+    assert runs.status in (0, 1), told
+    return " ".join(f"{rule}.{_part_of(detail, words)}" for rule, detail in found)
+
+
+# A type with a part of each sort that leads to type 1, for an export by value and behind a pointer.
+_WITH_PART = {"target": "ptr >1", "result": "sub >1", "param": "sub >0 >1", "element": "array:2 >1", "member": "struct:4/s x@0>1"}
+
+
+def ways(runs: Runs, part: str) -> str:
+    """The ways by which a part leads to its type, from an export by value and through a pointer."""
+    spelled, found = f"int:4/int;{_WITH_PART[part]}", []
+    by_value = _WITH_PART[part].replace("sub", "fn") if "sub" in spelled else "var >2"
+    for more, number in ((by_value, 3), ("ptr >2;var >3", 4)):
+        data = library(f"{spelled};{more}", f"- v::none:0:{number}")
+        runs.write("library", data)
+        told = runs.abi("check", "library", "library")
+        assert runs.status == 0, told
+        found.append(" ".join(re.findall(rf"^pair {Unit.STEP} {Unit.STEP} (\w+)$", told, re.M)))
+    return "|".join(found)

@@ -1,5 +1,5 @@
 // The answers about generated libraries, which have this many functions with types.
-use crate::check_in_memory;
+use crate::memory::check_in_memory;
 use commands::{Outcome, Verdict};
 use std::test::Fail;
 use trial_libraries::{Side, make};

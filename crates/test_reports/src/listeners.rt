@@ -13,21 +13,27 @@ use std::process::Abort;
 use std::rc::Rc;
 use std::test::Fail;
 
-// Records in a list when it is dropped.
+// A list of what happens to listeners: a letter for each row that a listener hears, and its capital letter when it is dropped.
+type Log = Rc<RefCell<Vec<u8>>>;
+
+// Writes what happens to a listener to the log.
 struct Note {
-    number: u8,
-    dropped: Rc<RefCell<Vec<u8>>>,
+    letter: u8,
+    log: Log,
+}
+
+impl Note {
+    fn say(&self, letter: u8) {
+        if let Ok(mut log) = self.log.try_borrow_mut() {
+            let _ = log.push(letter);
+        }
+    }
 }
 
 impl Drop for Note {
     fn drop(self) {
-        if let Ok(mut dropped) = self.dropped.try_borrow_mut() {
-            let _ = dropped.push(self.number);
-        }
-        let Note {
-            number: _,
-            dropped: _,
-        } = self;
+        self.say(self.letter.to_ascii_uppercase());
+        let Note { letter: _, log: _ } = self;
     }
 }
 
@@ -53,6 +59,7 @@ impl Listener for Counting {
     }
 
     fn tell(&mut self, row: &Row) -> Result<More, NoMemory> {
+        self.note.say(self.note.letter);
         if self.rows.len() >= self.most {
             return Err(NoMemory::Allocation);
         }
@@ -120,18 +127,13 @@ fn of_each_style(alloc: Global) -> Result<Vec<Box<dyn Listener>>, NoMemory>
     Ok(listeners)
 }
 
-// A listener with this number that may keep this many rows, and has kept none yet.
-fn keeping(
-    alloc: Global,
-    number: u8,
-    most: usize,
-    dropped: &Rc<RefCell<Vec<u8>>>,
-) -> Result<Counting, Fail>
+// A listener with this letter that may keep this many rows, and has kept none yet.
+fn keeping(alloc: Global, letter: u8, most: usize, log: &Log) -> Result<Counting, Fail>
     ensures { IfOk result (λ listener. listener.rows.items ≡ []) }
 {
     let note = Note {
-        number,
-        dropped: dropped.clone()?,
+        letter,
+        log: log.clone()?,
     };
     Ok(Counting {
         alloc,
@@ -159,12 +161,12 @@ fn told(
 fn each_text(
     alloc: Global,
     rows: &[Row],
-    dropped: &Rc<RefCell<Vec<u8>>>,
+    log: &Log,
 ) -> Result<(Result<(), NoMemory>, Vec<u8>), Fail> {
     let mut listeners = of_each_style(alloc)?;
     add_listener(
         &mut listeners,
-        Box::new(alloc, keeping(alloc, 1, 2, dropped)?)?,
+        Box::new(alloc, keeping(alloc, b'a', 2, log)?)?,
     )?;
     Ok(told(alloc, listeners, rows, b"")?)
 }
@@ -173,27 +175,27 @@ fn each_text(
 fn short_text(
     alloc: Global,
     rows: &[Row],
-    dropped: &Rc<RefCell<Vec<u8>>>,
+    log: &Log,
 ) -> Result<(Result<(), NoMemory>, Vec<u8>), Fail> {
     let mut listeners: Vec<Box<dyn Listener>> = Vec::new(alloc);
     add_listener(
         &mut listeners,
-        Box::new(alloc, keeping(alloc, 1, 2, dropped)?)?,
+        Box::new(alloc, keeping(alloc, b'a', 2, log)?)?,
     )?;
     add_listener(
         &mut listeners,
-        Box::new(alloc, keeping(alloc, 2, 1, dropped)?)?,
+        Box::new(alloc, keeping(alloc, b'b', 1, log)?)?,
     )?;
     add_listener(
         &mut listeners,
-        Box::new(alloc, keeping(alloc, 3, 2, dropped)?)?,
+        Box::new(alloc, keeping(alloc, b'c', 2, log)?)?,
     )?;
     Ok(told(alloc, listeners, rows, b"no\n")?)
 }
 
-fn check_each(rt: &impl Abort, alloc: Global, dropped: &Rc<RefCell<Vec<u8>>>) -> Result<(), Fail> {
+fn check_each(rt: &impl Abort, alloc: Global, log: &Log) -> Result<(), Fail> {
     let rows = two_rows(alloc)?;
-    let (ended, out) = each_text(alloc, &rows, dropped)?;
+    let (ended, out) = each_text(alloc, &rows, log)?;
     let wanted = b"\
 X2 f@V1: gone
 X5 len@V1: object size 4, now 8
@@ -209,9 +211,9 @@ X2 f@V1: gone
     Ok(())
 }
 
-fn check_short(rt: &impl Abort, alloc: Global, dropped: &Rc<RefCell<Vec<u8>>>) -> Result<(), Fail> {
+fn check_short(rt: &impl Abort, alloc: Global, log: &Log) -> Result<(), Fail> {
     let rows = two_rows(alloc)?;
-    let (ended, out) = short_text(alloc, &rows, dropped)?;
+    let (ended, out) = short_text(alloc, &rows, log)?;
     assert_eq!(rt; ended, Err(NoMemory::Allocation));
     assert_eq!(rt; out.as_slice(), b"no\n2".as_slice());
     Ok(())
@@ -219,15 +221,15 @@ fn check_short(rt: &impl Abort, alloc: Global, dropped: &Rc<RefCell<Vec<u8>>>) -
 
 #[test]
 fn each_style_has_its_text(rt: HostRuntime) -> Result<(), Fail> {
-    let dropped = Rc::new(rt.alloc(), RefCell::new(Vec::new(rt.alloc())))?;
-    check_each(&rt, rt.alloc(), &dropped)
+    let log = Rc::new(rt.alloc(), RefCell::new(Vec::new(rt.alloc())))?;
+    check_each(&rt, rt.alloc(), &log)
 }
 
 #[test]
 fn the_texts_before_it_stay_where_memory_runs_out(rt: HostRuntime) -> Result<(), Fail> {
-    let dropped = Rc::new(rt.alloc(), RefCell::new(Vec::new(rt.alloc())))?;
-    check_short(&rt, rt.alloc(), &dropped)?;
-    let numbers = dropped.try_borrow()?;
-    assert_eq!(rt; numbers.as_slice(), [1, 2, 3].as_slice());
+    let log = Rc::new(rt.alloc(), RefCell::new(Vec::new(rt.alloc())))?;
+    check_short(&rt, rt.alloc(), &log)?;
+    // Each is dropped once, before the next one hears.
+    assert_eq!(rt; log.try_borrow()?.as_slice(), b"aaAbbBC".as_slice());
     Ok(())
 }
