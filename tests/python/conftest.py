@@ -24,7 +24,7 @@ sys.path.insert(0, str(TOOLS))
 from abi_tools.faults import run_tool  # noqa: E402
 
 # The module of each tool, and its exit status for a fault.
-COMMANDS = {"join-debug": ("join_command", 1), "abi-baseline": ("baseline_command", 1), "abi-gate": ("gate_command", 2),
+COMMANDS = {"join-debug": ("join_command", 2), "abi-baseline": ("baseline_command", 2), "abi-gate": ("gate_command", 2),
             "abi-packages": ("packages_command", 2)}
 
 HEADER = """\
@@ -184,11 +184,11 @@ def needs(*programs: str) -> None:
     assert not missing, f"there is no {', '.join(missing)} (with SKIP_MISSING_TOOLS=1 what needs it is left out)"
 
 
-def killer(folder: Path, number: signal.Signals, arguments: str) -> Path:
-    """A program `abi` that sends a signal to the tool that runs it if its arguments match a shell pattern."""
+def killer_of_tool(folder: Path, number: signal.Signals, arguments: str) -> Path:
+    """A program `abi` that sends a signal to the tool, whose step runs it, if its arguments match a shell pattern."""
     path = folder / "killing_abi"
-    path.write_text(f"#!/bin/sh\ncase \"$*\" in *{arguments}*) kill -{int(number)} $PPID; exit 0 ;; esac\n"
-                    f"exec '{Path(os.environ['ABI']).resolve()}' \"$@\"\n")
+    path.write_text(f"#!/bin/sh\ncase \"$*\" in *{arguments}*) kill -{int(number)} $(cut -d ' ' -f 4 /proc/$PPID/stat); sleep 10 ;; "
+                    f"esac\nexec '{Path(os.environ['ABI']).resolve()}' \"$@\"\n")
     path.chmod(0o755)
     return path
 

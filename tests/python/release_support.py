@@ -93,7 +93,7 @@ def judged(ended: Ended) -> tuple[int, int]:
 
 def unmeasured(found: Json) -> list[Json]:
     """What the lines of a table tell: without their measurements, and without names of files, which the program changes."""
-    untold = ("measured", "result", "certificate", "report")
+    untold = ("measured", "result", "certificate", "report", "page")
     return [{key: value for key, value in line.items() if key not in untold} for line in found["lines"]]
 
 
@@ -148,6 +148,27 @@ def wait_for(holds: Callable[[], bool], seconds: float = 400) -> None:
 def results(folder: Path) -> list[Path]:
     """The results that a run has kept."""
     return sorted((folder / "out").glob("results/*/*.json"))
+
+
+def children(process: int) -> set[int]:
+    """The processes that a process started, and those that they started."""
+    found = {process}
+    parents = {}
+    for path in Path("/proc").glob("[0-9]*/stat"):
+        with contextlib.suppress(OSError):
+            fields = path.read_text().rpartition(")")[2].split()
+            parents[int(path.parent.name)] = int(fields[1])
+    while more := {one for one, parent in parents.items() if parent in found} - found:
+        found |= more
+    return found
+
+
+def is_alive(process: int) -> bool:
+    """Whether a process goes on: one that has ended may wait for its parent."""
+    try:
+        return Path(f"/proc/{process}/stat").read_text().rpartition(")")[2].split()[0] != "Z"
+    except (FileNotFoundError, ProcessLookupError):
+        return False
 
 
 def stop(process: subprocess.Popen[bytes]) -> None:
@@ -217,3 +238,10 @@ class Cluster:
     def begin(self, number: int) -> None:
         """Starts it again."""
         self.processes[number] = self._started(self._commands[number])
+
+    def goes_on(self) -> bool:
+        """Starts again what has ended by itself: workers do so if their scheduler is gone. Returns True."""
+        for number, process in enumerate(self.processes):
+            if process.poll() is not None:
+                self.begin(number)
+        return True

@@ -80,8 +80,8 @@ def test_what_cannot_be_kept_is_refused(build: Build, tmp_path: Path) -> None:
     assert "has no debug information" in tool("abi-baseline", stripped, kept).errors
     assert exports(kept) == exports(stripped)
     shared([one, two], tmp_path / "common.debug")
-    refused(tool("abi-baseline", one, kept), 1, "supplementary file", kept)
-    refused(tool("abi-baseline", tmp_path / "shapes.h", kept), 1, "is no ELF file", kept)
+    refused(tool("abi-baseline", one, kept), 2, "supplementary file", kept)
+    refused(tool("abi-baseline", tmp_path / "shapes.h", kept), 2, "is no ELF file", kept)
     done("gcc", "-c", "-o", tmp_path / "object.o", tmp_path / "one.so.c", folder=tmp_path)
-    refused(tool("abi-baseline", tmp_path / "object.o", kept), 1, "is no shared object", kept)
+    refused(tool("abi-baseline", tmp_path / "object.o", kept), 2, "is no shared object", kept)
     assert script("abi-baseline", one).status == 64

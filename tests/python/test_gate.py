@@ -8,7 +8,7 @@ from pathlib import Path
 from typing import Callable
 
 import pytest
-from conftest import TOOLS, Ended, abi, done, killer, run, script, tool
+from conftest import TOOLS, Ended, abi, done, killer_of_tool, run, script, tool
 
 Build = Callable[..., Path]
 
@@ -91,8 +91,9 @@ def test_parts_of_a_library_may_lack_types(tmp_path: Path) -> None:
     told(gate(full, level_one), "2 exports", "-g1")
     told(gate(full, untyped), "2 exports", "no debug information of them")
     told(gate(level_one, full), "2 exports", "-g1")
-    assert gate(untyped, untyped).out == "yes: 3 exports compared, 1 with types\n"
-    assert gate("--require-types", "33", untyped, untyped).status == 0
+    told(gate(untyped, untyped), "1 of 3 exports", "90 of 100")
+    ended = gate("--require-types", "33", untyped, untyped)
+    assert ended.out == "yes: 3 exports compared, 1 with types (33.3 % of the 3 that can have some)\n"
     told(gate("--require-types", "34%", untyped, untyped), "1 of 3 exports", "34 of 100")
     told(gate("--require-types", "34", level_one, level_one), "1 of 3 exports")
 
@@ -128,6 +129,7 @@ def test_exports_without_types_are_named(build: Build) -> None:
     folded = build("folded.so", FOLDED.replace("+ 8", "+ 7"), "-g", "-O2")
     ended = gate("--require-types", "90", folded, folded)
     told(ended, "2 of 3 exports have types in both libraries, which is less than 90 of 100: no types of second; ", "-fno-ipa-icf")
+    assert "assembler" not in ended.out
     code = "".join(f'asm(".globl f{n}; .type f{n}, @function; f{n}: ret; .size f{n}, 1");' for n in range(1, 8))
     written = build("written.so", f"int first(int a) {{ return a; }}\n{code}\n", "-g", "-O2")
     ended = gate("--require-types", "90", written, written)
@@ -143,14 +145,65 @@ def test_nothing_compared_is_told(build: Build, tmp_path: Path) -> None:
     told(gate("--rules", tmp_path / "all.rules", whole, whole), "nothing was compared")
 
 
-@pytest.mark.parametrize("share", ("0", "100"))
+@pytest.mark.parametrize("share", ("0", "90", "100"))
 def test_exports_of_size_0_are_no_types(build: Build, share: str) -> None:
     """As in assembler without .size: without types of other exports, nothing was compared but names. If there are types, they count."""
     code = "".join(f'asm(".globl f{n}; .type f{n}, @function; f{n}: ret");' for n in range(3))
     written = build("written.so", f"static int unused;\n{code}\n", "-g", "-O2", "-nostdlib")
     told(gate("--require-types", share, written, written), "no types were compared", "have size 0")
-    assert gate("--require-types", "0", build("one.so", f"int first(int a) {{ return a; }}\n{code}\n"), build(
-        "two.so", f"int first(int a) {{ return a; }}\n{code}\n")).status == 0
+    one = build("one.so", f"int first(int a) {{ return a; }}\n{code}\n")
+    assert gate("--require-types", share, one, one).out == "yes: 4 exports compared, 1 with types (100 % of the 1 that can have some)\n"
+
+
+# Ten functions, of which nine are in the second unit.
+_ONE = "int first(int a) { return a; }\n"
+_NINE = "".join(f"int f{n}(int a) {{ return a + {n}; }}\n" for n in range(9))
+
+
+def two_units(folder: Path, name: str, second: str, *options: str) -> Path:
+    """A library of two units, of which the first has types."""
+    (folder / "one.c").write_text(_ONE)
+    suffix = "s" if second.startswith(".") else "c"
+    (folder / f"{name}.{suffix}").write_text(second)
+    for source, given in (("one.c", ("-g",)), (f"{name}.{suffix}", options)):
+        done("gcc", "-fPIC", "-c", *given, "-o", folder / f"{source}.o", folder / source)
+    done("gcc", "-shared", "-o", folder / f"{name}.so", folder / "one.c.o", folder / f"{name}.{suffix}.o")
+    return folder / f"{name}.so"
+
+
+def test_one_typed_export_is_not_enough(tmp_path: Path) -> None:
+    """The signatures of the nine functions without types change, and `abi` does not see it."""
+    old = two_units(tmp_path, "old", _NINE, "-g0")
+    new = two_units(tmp_path, "new", _NINE.replace("(int a)", "(int *a, long b)").replace("return a", "return *a + b"), "-g0")
+    assert abi("check", old, new).status == 0
+    told(gate(old, new), "1 of 10 exports have types in both libraries, which is less than 90 of 100")
+    ended = gate("--require-types", "10", old, new)
+    assert (ended.status, ended.out) == (0, "yes: 10 exports compared, 1 with types (10 % of the 10 that can have some)\n")
+
+
+@pytest.mark.parametrize("second", (
+    "static int one(int a) { return a; }\nstatic void *choose(void) { return one; }\n" + "".join(
+        f'int g{n}(int a) __attribute__((ifunc("choose")));\n' for n in range(9)),
+    "".join(f".globl g{n}\n.type g{n}, @function\ng{n}: ret\n.size g{n}, 1\n" for n in range(9))), ids=("indirect", "assembler"))
+def test_what_never_has_types_does_not_count(tmp_path: Path, second: str) -> None:
+    """Indirect functions, and functions in a unit that is written in assembler. A library that has nothing else is a yes that says so."""
+    library = two_units(tmp_path, "mixed", second, "-g")
+    ended = gate("--require-types", "100", library, library)
+    assert ended.out == "yes: 10 exports compared, 1 with types (100 % of the 1 that can have some)\n", ended
+    (alone,) = [path for path in tmp_path.glob("mixed.[cs].o")]
+    done("gcc", "-shared", "-o", tmp_path / "alone.so", alone)
+    ended = gate(tmp_path / "alone.so", tmp_path / "alone.so")
+    assert ended.out == "yes: 9 exports compared, all of them indirect functions or in assembler, which have no types\n", ended
+
+
+def test_objects_without_types_have_advice_of_their_own(tmp_path: Path) -> None:
+    """gcc folds functions, and no objects."""
+    old = two_units(tmp_path, "old", "int table[4] = { 1 }, size = 4;\n", "-g")
+    new = two_units(tmp_path, "new", "int table[4] = { 1 }, size = 4;\n", "-g0")
+    assert sorted(abi("check", old, new).out.splitlines()) == ["X6 size: type gone", "X6 table: type gone", "no"]
+    ended = gate(old, new)
+    told(ended, "the types of 2 exports are gone: ", "none of 2 objects, ", "table", "size", "in a unit that is built without -g")
+    assert "folded" not in ended.out
 
 
 def test_a_status_without_its_text_is_no_answer(build: Build, tmp_path: Path, monkeypatch: pytest.MonkeyPatch) -> None:
@@ -184,12 +237,11 @@ def test_what_abi_refuses_is_told(build: Build, tmp_path: Path) -> None:
 def test_the_script_ends_with_2_where_nothing_can_be_told(build: Build, tmp_path: Path) -> None:
     whole = build("whole.so", OLD)
     assert script("abi-gate", whole, whole).status == 0
-    assert script("abi-gate", whole).status == 64
-    assert script("abi-gate", "--require-types", "101", whole, whole).status == 64
     killed = tmp_path / "abi"
     killed.write_text("#!/bin/sh\nkill -9 $$\n")
     killed.chmod(0o755)
-    for program, words in ((killed, "the signal SIGKILL ended it: perhaps the machine ran out of memory"), (tmp_path / "none", "there is no program")):
+    for program, words in ((killed, "the signal SIGKILL ended it: perhaps the machine ran out of memory"),
+                           (tmp_path / "none", "there is no program")):
         ended = run("env", f"ABI={program}", TOOLS / "abi-gate", whole, whole)
         assert ended.status == 2 and words in ended.out + ended.errors
     killed.unlink()
@@ -202,8 +254,11 @@ def test_a_run_that_is_killed_leaves_no_certificate(build: Build, tmp_path: Path
     """It also leaves none of an earlier run, and no other file."""
     whole, folder = build("whole.so", OLD), tmp_path / "kept"
     folder.mkdir()
-    (folder / "cert").write_text("of an earlier run")
-    ended = run("env", f"ABI={killer(tmp_path, number, 'check')}", TOOLS / "abi-gate", "--certificate", folder / "cert", whole, whole)
+    names = ("--certificate", "--json", "--junit", "--sarif")
+    for name in names:
+        (folder / name).write_text("of an earlier run")
+    options = [word for name in names for word in (name, folder / name)]
+    ended = run("env", f"ABI={killer_of_tool(tmp_path, number, 'check')}", TOOLS / "abi-gate", *options, whole, whole)
     assert ended.status == (-number if number == signal.SIGKILL else 128 + number) and ended.out == ""
     assert list(folder.iterdir()) == []
     assert script("abi-gate", "--certificate", folder / "cert", whole, whole).status == 0

@@ -3,13 +3,16 @@
 from __future__ import annotations
 
 import json
+import os
 import re
+import signal
 import subprocess
 from pathlib import Path
 from typing import Any
 
+import pytest
 from conftest import TOOLS, Ended, abi, done, run
-from release_support import LIBRARIES, deb
+from release_support import LIBRARIES, children, deb, is_alive, wait_for, wrapper_of
 
 TOOL = TOOLS / "abi-history"
 
@@ -71,7 +74,10 @@ def test_ten_versions(tmp_path: Path) -> None:
     assert re.fullmatch(r"no 1\.5 -> 1\.6: 1 break \(X2 1\); report out/6-7\.report", lines[5]), lines
     assert re.fullmatch(r"10 versions, 45 pairs: \d+ no, \d+ yes; \d+ composed", lines[-1]), lines
     page = (tmp_path / "out/index.html").read_text()
-    assert page.count('class="pair"') == 45 and "<script" not in page and "http" not in page
+    assert "<script" not in page and "http" not in page
+    # the rows and columns of the page in their order
+    shown = re.findall(r'<td class="pair"><a href="([^"]+)"><span class="[a-z-]+">([a-z ]+)</span></a>(\*?)', page)
+    assert shown == [(pair["file"], pair["answer"], "*" if pair["composed"] else "") for _, pair in sorted(answers.items())]
     assert "1 exports went: f2" in page and "1 exports came: f2" in page
     for name in re.findall(r'href="([^"]+)"', page):
         assert (tmp_path / "out" / name).is_file()
@@ -89,7 +95,13 @@ def test_packages_and_baselines(tmp_path: Path) -> None:
     package = deb(tmp_path / "debs", "made", {f"{LIBRARIES}/libmade.so.1": tmp_path / "stripped"}, version="1")
     debug = deb(tmp_path / "debs", "made-dbg", {f"usr/lib/debug/.build-id/{digits[:2]}/{digits[2:]}.debug": tmp_path / "v1.debug"})
     done(TOOLS / "abi-baseline", second, tmp_path / "v2.abi")
+    # what an earlier run left, and a file that is none of the tool's
+    (tmp_path / "out").mkdir()
+    for name in ("1-2.report", "7-9.cert", "index.html", "notes-1.txt"):
+        (tmp_path / "out" / name).touch()
     ended = history(tmp_path, f"{package},{debug}", f"2={tmp_path / 'v2.abi'}", f"3={second}")
+    assert {path.name for path in (tmp_path / "out").iterdir()} == {
+        "1-2.cert", "2-3.cert", "1-3.cert", "history.json", "index.html", "notes-1.txt"}
     assert ended.status == 0 and ended.out.startswith("yes 1 -> 2: 2 exports compared, 2 with types"), ended
     assert [version["name"] for version in document(tmp_path)["versions"]] == ["1", "2", "3"]
     ended = history(tmp_path, package, f"2={second}")
@@ -109,8 +121,47 @@ def test_what_cannot_be_told_is_neither_yes_nor_no(tmp_path: Path) -> None:
     assert ended.status == 2, ended
     lines = ended.out.splitlines()
     assert len(lines) == 4 and all(line.startswith("cannot tell ") for line in lines[:2]), lines
-    assert "<i>c" not in (tmp_path / "out/index.html").read_text() and r"b\x0ayes b" in lines[0]
+    page = (tmp_path / "out/index.html").read_text()
+    assert "<i>c" not in page and r"b\x0ayes b" in lines[0]
+    # of a version that cannot be read it is not known which exports it has: none came or went
+    assert page.count("Which exports came and went is not known.") == 2 and " exports went: " not in page and " exports came: " not in page
+    assert [version["exports"] for version in document(tmp_path)["versions"]] == [2, None, 2, 2]
+    assert {one["export"]: (one["came"], one["last"], one["gaps"]) for one in document(tmp_path)["exports"]} == {
+        "f1": (0, 3, False), "f2": (0, 3, False)}
     assert {(pair["old"], pair["new"]): pair["answer"] for pair in document(tmp_path)["pairs"]}[0, 3] == "yes"
+
+
+def test_abi_that_gives_no_answer_is_told_as_what_it_was(tmp_path: Path) -> None:
+    """For the second of three versions, memory runs out, a signal ends `abi`, or its time is up."""
+    files = [built(tmp_path, f"v{number}", text_of(number)) for number in (1, 2, 3)]
+    for way, words in (("exit 4", "abi ran out of memory under its limit of 900 MB"), ("kill -9 $$", "the signal SIGKILL ended it"),
+                       ("exec /bin/sh -c 'while :; do :; done'", "its limit is 1 seconds of processor time"), ("exit 1", "with status 1")):
+        wrapper = wrapper_of(tmp_path, f"case \"$*\" in 'check -- version-1 version-2') {way} ;; esac")
+        ended = run("env", f"ABI={wrapper}", TOOL, "--memory", 900, "--seconds", 1, "--out", "out", *files, folder=tmp_path)
+        assert ended.status == 2 and words in ended.out.splitlines()[0], ended
+        answers = {(pair["old"], pair["new"]): pair for pair in document(tmp_path)["pairs"]}
+        assert [answers[pair]["answer"] for pair in ((0, 1), (1, 2), (0, 2))] == ["cannot tell", "yes", "yes"]
+        assert not any(pair["composed"] for pair in answers.values())
+
+
+@pytest.mark.parametrize("number", [signal.SIGINT, signal.SIGTERM, signal.SIGKILL])
+def test_what_a_history_leaves_behind(tmp_path: Path, number: signal.Signals) -> None:
+    """It is ended while `abi` works: no process goes on, and no folder stays, or the next run removes it."""
+    files = [built(tmp_path, f"v{number}", text_of(number)) for number in (1, 2)]
+    (tmp_path / "tmp").mkdir()
+    wrapper = wrapper_of(tmp_path, f"echo $$ >>{tmp_path}/runs; [ -e {tmp_path}/go ] || exec sleep 1000")
+    environment = {**os.environ, "ABI": str(wrapper), "TMPDIR": str(tmp_path / "tmp")}
+    command = [str(word) for word in (TOOL, "--out", "out", *files)]
+    with subprocess.Popen(command, cwd=tmp_path, env=environment, stdout=subprocess.DEVNULL) as process:
+        wait_for((tmp_path / "runs").exists)
+        ours = children(process.pid) - {process.pid}
+        process.send_signal(number)
+        assert process.wait(timeout=100) == (-number if number == signal.SIGKILL else 128 + number)
+    wait_for(lambda: not any(is_alive(one) for one in {*ours, *map(int, (tmp_path / "runs").read_text().split())}), seconds=100)
+    assert bool(list((tmp_path / "tmp").iterdir())) == (number == signal.SIGKILL)
+    (tmp_path / "go").touch()
+    assert subprocess.run(command, cwd=tmp_path, env=environment, stdout=subprocess.DEVNULL, check=False).returncode == 0
+    assert list((tmp_path / "tmp").iterdir()) == []
 
 
 def test_wrong_arguments(tmp_path: Path) -> None:
@@ -118,7 +169,9 @@ def test_wrong_arguments(tmp_path: Path) -> None:
     two = deb(tmp_path, "two", {f"{LIBRARIES}/liba.so.1": built(tmp_path, "a", text_of(1), "liba.so.1"),
                                 f"{LIBRARIES}/libb.so.1": built(tmp_path, "b", text_of(1), "libb.so.1")})
     for arguments, status, words in (((first,), 64, "a history needs two versions"), ((), 64, "required"),
-                                     ((first, first), 2, "two versions have the name"), ((first, "x=none"), 2, "there is no file none"),
+                                     ((first, first), 64, "two versions have the name"), ((first, "x=none"), 2, "there is no file none"),
+                                     ((first, f"b={first},{first}"), 64, "b: only packages have several files"),
+                                     ((first, f"b={first}", "--workers", "0"), 64, "0 is no number from 1"),
                                      (("--rules", "none", first, f"b={first}"), 2, "there is no rule file none"),
                                      ((two, f"b={two}"), 2, "name one of liba.so.1, libb.so.1 by --library")):
         ended = history(tmp_path, *arguments)

@@ -5,18 +5,22 @@ from __future__ import annotations
 import gzip
 import locale
 import os
+import shlex
+import shutil
 import signal
 import subprocess
 import tarfile
+import tempfile
 import time
 from pathlib import Path
-from typing import Iterator
+from typing import Callable, Iterator
 
 import pytest
-from conftest import FIRST, SECOND, TOOLS, done, run, script
+from conftest import FIRST, SECOND, TOOLS, done, needs, run, script
 from package_support import (CHANGED, LIBRARIES, Build, Member, deb, hostile_deb, installed, link, packages, packed, rpm, tar)
 
 from abi_tools.archives import Archive
+from abi_tools.elf_files import ElfFile
 
 SONAME = "libshapes.so.1"
 
@@ -329,6 +333,21 @@ def test_a_library_without_section_headers_is_seen(old: Path, good: bytes, tmp_p
     assert ended.status == 2 and ended.out.startswith(f"cannot tell {SONAME}: "), ended
 
 
+def test_a_library_whose_sections_are_those_of_a_debug_file_is_seen(good: bytes, bad: bytes, build: Build, tmp_path: Path) -> None:
+    """Its sections say that its dynamic symbols are not in the file; the loader finds them."""
+    other = Member("usr/lib/libother.so.1", build("other.so", SECOND, soname="libother.so.1").read_bytes())
+    (tmp_path / "good").write_bytes(good)
+    symbols = next(one for one in ElfFile(tmp_path / "good").sections if one.name == ".dynsym")
+    table = int.from_bytes(good[40:48], "little")
+    hidden = bytearray(good)
+    hidden[table + 64 * symbols.number + 4] = 8
+    sides = [hostile_deb(tmp_path / f"{name}.deb", [Member(f"usr/lib/{SONAME}", bytes(contents)), other])
+             for name, contents in (("hidden", hidden), ("bad", bad))]
+    for old, new in (sides, sides[::-1]):
+        ended = packages(tmp_path, old, "--", new)
+        assert ended.status == 2 and f"cannot tell {SONAME}: " in ended.out and "gone" not in ended.out, ended
+
+
 def test_a_run_that_is_ended_ends_its_steps(old: Path, tmp_path: Path, monkeypatch: pytest.MonkeyPatch) -> None:
     """`abi` waits for ever; the tool gets a signal: nothing that it started goes on, and its folder is gone."""
     temporary = tmp_path / "temporary"
@@ -391,10 +410,74 @@ def test_a_fault_of_the_tool_is_no_answer(old: Path, tmp_path: Path, monkeypatch
     monkeypatch.setattr("abi_tools.packages_command.pairs", lambda *_: 1 / 0)
     ended = packages(tmp_path, old, "--", old)
     assert ended.status == 2 and ended.errors == "abi-packages: a fault of this tool: ZeroDivisionError: division by zero\n", ended
-    monkeypatch.undo()
-    monkeypatch.setattr("abi_tools.package_sides.pairs_of", lambda *_: [])
-    ended = packages(tmp_path, old, "--", old)
-    assert ended.status == 2 and f"usr/lib/{SONAME} was seen and not judged" in ended.errors, ended
+
+
+@pytest.mark.parametrize("place, lost, name", (
+    ("abi_tools.package_sides.pairs_of", lambda *_: [], f"usr/lib/{SONAME}"),
+    ("abi_tools.found_libraries._sort_dynamic", lambda *_: None, "two.deb"),
+    ("abi_tools.packages_command._lines", lambda *_: iter(()), SONAME),
+    ("abi_tools.packages_command._left_out", lambda *_: iter(()), "usr/lib/arm/libarm.so"),
+    ("abi_tools.package_sides.with_unreadable", lambda pairs, *_: pairs, "usr/lib/libdamaged.so")))
+def test_what_was_seen_is_counted_at_the_end(old: Path, good: bytes, tmp_path: Path, monkeypatch: pytest.MonkeyPatch, place: str,
+                                             lost: Callable[..., object], name: str) -> None:
+    """A fault that loses a library anywhere between the list of members and the lines."""
+    other = bytearray(good)
+    other[18] = 183
+    two = hostile_deb(tmp_path / "two.deb", [Member(f"usr/lib/{SONAME}", good), Member("usr/lib/arm/libarm.so", bytes(other)),
+                                             Member("usr/lib/libdamaged.so", good[:30])])
+    assert "a fault" not in packages(tmp_path, two, "--", two).errors
+    monkeypatch.setattr(place, lost)
+    ended = packages(tmp_path, two, "--", two)
+    assert ended.status == 2 and ended.out == "", ended
+    assert ended.errors == f"abi-packages: a fault of this tool: {name} was seen and not judged\n", ended
+
+
+def test_an_ordinary_user_gets_the_same_answers(old: Path, bad: bytes, tmp_path: Path) -> None:
+    """Without the rights of root, in a folder of its own, with the tools of another user."""
+    needs("setpriv")
+    with tempfile.TemporaryDirectory(prefix="abi-ordinary-") as name:
+        folder = Path(name)
+        shutil.copytree(TOOLS, folder / "tools", ignore=shutil.ignore_patterns("__pycache__"))
+        shutil.copy(os.environ["ABI"], folder / "abi")
+        for file in (old, hostile_deb(tmp_path / "bad.deb", [Member(f"usr/lib/{SONAME}", bad)])):
+            shutil.copy(file, folder)
+        done("chmod", "-R", "a+rX", folder)
+        home = folder / "home"
+        home.mkdir()
+        user = ["env", f"ABI={folder / 'abi'}", f"TMPDIR={home}"]
+        if os.geteuid() == 0:
+            os.chown(home, 65534, 65534)
+            user = ["setpriv", "--reuid=65534", "--regid=65534", "--clear-groups", *user]
+        command = [*user, folder / "tools/abi-packages", "--certificates", home / "kept", folder / "old.deb", "--"]
+        for new, status in (("old", 0), ("bad", 1)):
+            ended = run(*command, folder / f"{new}.deb")
+            assert ended.status == status, ended
+            own = packages(tmp_path, "--certificates", tmp_path / "kept", old, "--", tmp_path / f"{new}.deb")
+            assert ended.out.replace(str(home), str(tmp_path)) == own.out
+        assert sorted(place.name for place in home.iterdir()) == ["kept"]
+
+
+@pytest.mark.parametrize("settings", (
+    ("LC_ALL=C", "PYTHONUTF8=0", "PYTHONCOERCECLOCALE=0"), ("-u", "LANG", "-u", "LC_ALL"), ("LC_ALL=C.UTF-8",)))
+def test_a_locale_that_lacks_a_character_changes_no_answer(old: Path, bad: bytes, tmp_path: Path, settings: tuple[str, ...]) -> None:
+    """Names of this machine's folders are printed as they are, as far as the locale has their characters."""
+    folder = tmp_path / "schön →"
+    folder.mkdir()
+    new = hostile_deb(folder / "→.deb", [Member(f"usr/lib/{SONAME}", bad)])
+    ended = run("env", *settings, TOOLS / "abi-packages", "--certificates", folder, old, "--", new)
+    assert ended.status == 1 and ended.out.startswith(f"no {SONAME}: ") and ended.out.endswith("1 library: 1 no\n"), ended
+    ended = run("env", *settings, TOOLS / "abi-packages", "--certificates", folder, old, "--", folder / "→none.deb")
+    assert ended.status == 2 and ended.errors.startswith("abi-packages: there is no package"), ended
+
+
+def test_a_terminal_sees_progress(old: Path, tmp_path: Path) -> None:
+    """On standard error, if that is a terminal; standard output has the lines alone."""
+    command = shlex.join(map(str, (TOOLS / "abi-packages", "--certificates", tmp_path / "kept", old, "--", tmp_path / "two.deb")))
+    shutil.copy(old, tmp_path / "two.deb")
+    ended = run("script", "--quiet", "--return", "--command", f"TERM=xterm {command} >{tmp_path}/out", tmp_path / "terminal")
+    assert ended.status == 0 and "packages" in ended.out and "2/2" in ended.out, ended
+    assert (tmp_path / "out").read_text().splitlines()[-1] == "1 library: 1 yes"
+    assert "\x1b" not in (tmp_path / "out").read_text()
 
 
 def test_a_package_is_read_once(old: Path, tmp_path: Path) -> None:

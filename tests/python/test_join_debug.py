@@ -90,7 +90,7 @@ def test_a_debug_file_is_found_by_its_name_and_checksum(build: Build, tmp_path: 
     assert exports(joined) == exports(whole)
     with (root / "usr/lib/debug/usr/lib/whole.debug").open("ab") as debug:
         debug.write(b"one more byte")
-    refused(tool("join-debug", "--root", root, library, joined), 1, "is of another build", joined)
+    refused(tool("join-debug", "--root", root, library, joined), 2, "is of another build", joined)
 
 
 def test_without_a_root_the_system_is_searched(build: Build, tmp_path: Path) -> None:
@@ -104,7 +104,7 @@ def test_without_a_root_the_system_is_searched(build: Build, tmp_path: Path) -> 
     assert tool("join-debug", stripped, joined).status == 0
     assert exports(joined) == exports(whole)
     (tmp_path / ".debug/whole.debug").unlink()
-    refused(tool("join-debug", stripped, joined), 1, str(system_place(Path(), build_id(whole))), joined)
+    refused(tool("join-debug", stripped, joined), 2, str(system_place(Path(), build_id(whole))), joined)
 
 
 def test_a_library_with_debug_information_needs_no_debug_file(build: Build, tmp_path: Path) -> None:
@@ -117,25 +117,25 @@ def test_a_debug_file_of_another_build_is_refused(build: Build, tmp_path: Path) 
     stripped = split(build("one.so", FIRST), tmp_path / "one.debug")
     split(build("two.so", FIRST.replace("s->at->x *", "s->at->x +")), tmp_path / "two.debug")
     joined = tmp_path / "joined.so"
-    refused(tool("join-debug", stripped, joined, tmp_path / "two.debug"), 1, build_id(tmp_path / "two.so"), joined)
+    refused(tool("join-debug", stripped, joined, tmp_path / "two.debug"), 2, build_id(tmp_path / "two.so"), joined)
 
 
 def test_without_any_identity_a_debug_file_is_refused(build: Build, tmp_path: Path) -> None:
     stripped = split(build("one.so", FIRST, "-g", "-Wl,--build-id=none"), tmp_path / "one.debug", link=False)
     joined = tmp_path / "joined.so"
-    refused(tool("join-debug", stripped, joined, tmp_path / "one.debug"), 1, "cannot be told", joined)
-    refused(tool("join-debug", "--root", tmp_path, stripped, joined), 1, "name its debug file", joined)
+    refused(tool("join-debug", stripped, joined, tmp_path / "one.debug"), 2, "cannot be told", joined)
+    refused(tool("join-debug", "--root", tmp_path, stripped, joined), 2, "name its debug file", joined)
 
 
 def test_what_is_missing_is_named(build: Build, tmp_path: Path) -> None:
     stripped = split(build("one.so", FIRST), tmp_path / "one.debug", link=False)
     joined = tmp_path / "joined.so"
-    refused(tool("join-debug", tmp_path / "none.so", joined), 1, "there is no file", joined)
-    refused(tool("join-debug", stripped, joined, tmp_path / "none.debug"), 1, "there is no file", joined)
-    refused(tool("join-debug", "--root", tmp_path, stripped, joined), 1, f"{build_id(stripped)[2:]}.debug", joined)
-    refused(tool("join-debug", stripped, joined, stripped), 1, "has no debug information", joined)
+    refused(tool("join-debug", tmp_path / "none.so", joined), 2, "there is no file", joined)
+    refused(tool("join-debug", stripped, joined, tmp_path / "none.debug"), 2, "there is no file", joined)
+    refused(tool("join-debug", "--root", tmp_path, stripped, joined), 2, f"{build_id(stripped)[2:]}.debug", joined)
+    refused(tool("join-debug", stripped, joined, stripped), 2, "has no debug information", joined)
     nowhere = tmp_path / "no/joined.so"
-    assert tool("join-debug", stripped, nowhere, tmp_path / "one.debug").status == 1
+    assert tool("join-debug", stripped, nowhere, tmp_path / "one.debug").status == 2
 
 
 @pytest.mark.parametrize("share", (0, 3, 50, 99))
@@ -147,7 +147,7 @@ def test_a_file_that_is_cut_short_is_refused(build: Build, tmp_path: Path, share
         cut = tmp_path / "cut"
         cut.write_bytes(contents[:len(contents) * share // 100])
         given = [cut if word == "cut" else word for word in arguments]
-        refused(tool("join-debug", given[0], joined, given[1]), 1, "cut", joined)
+        refused(tool("join-debug", given[0], joined, given[1]), 2, "cut", joined)
 
 
 def test_bytes_that_are_changed_never_give_a_trace(build: Build, tmp_path: Path) -> None:
@@ -166,23 +166,23 @@ def test_bytes_that_are_changed_never_give_a_trace(build: Build, tmp_path: Path)
             assert joined.exists() and ended.errors == ""
             joined.unlink()
         else:
-            refused(ended, 1, "join-debug: ", joined)
+            refused(ended, 2, "join-debug: ", joined)
 
 
 def test_64_bit_dwarf_is_refused(build: Build, tmp_path: Path) -> None:
     joined = tmp_path / "joined.so"
     stripped = split(build("one.so", FIRST, "-g", "-gdwarf64"), tmp_path / "one.debug")
-    refused(tool("join-debug", stripped, joined, tmp_path / "one.debug"), 1, "64-bit format", joined)
+    refused(tool("join-debug", stripped, joined, tmp_path / "one.debug"), 2, "64-bit format", joined)
 
 
 def test_an_output_is_there_exactly_where_the_run_succeeded(build: Build, tmp_path: Path) -> None:
     stripped = split(build("one.so", FIRST), tmp_path / "one.debug")
     joined = tmp_path / "joined.so"
     joined.write_text("of an earlier run")
-    refused(tool("join-debug", stripped, joined, tmp_path / "none.debug"), 1, "there is no file", joined)
+    refused(tool("join-debug", stripped, joined, tmp_path / "none.debug"), 2, "there is no file", joined)
     contents = stripped.read_bytes()
     ended = tool("join-debug", stripped, stripped, tmp_path / "one.debug")
-    assert ended.status == 1 and "is an input, too" in ended.errors and stripped.read_bytes() == contents
+    assert ended.status == 2 and "is an input, too" in ended.errors and stripped.read_bytes() == contents
     assert script("join-debug", stripped).status == 64
     assert script("join-debug", "--help").status == 0
     assert script("join-debug", stripped, joined, tmp_path / "one.debug").status == 0
@@ -301,7 +301,7 @@ def test_a_supplementary_file_beside_a_debug_file_that_is_found_by_its_name(two:
     (root / "usr/lib").mkdir(exist_ok=True)
     library = stripped.rename(root / "usr/lib/whole.so")
     joined = tmp_path / "joined.so"
-    refused(tool("join-debug", "--root", root, library, joined), 1, "there is no supplementary file", joined)
+    refused(tool("join-debug", "--root", root, library, joined), 2, "there is no supplementary file", joined)
     supplementary = root / "usr/lib/debug/.dwz" / common.name
     supplementary.parent.mkdir()
     common.rename(supplementary)
@@ -329,11 +329,11 @@ def test_a_wrong_supplementary_file_is_refused(two: tuple[list[Path], list[Path]
     joined = tmp_path / "joined.so"
     contents = common.read_bytes()
     common.unlink()
-    refused(tool("join-debug", kept[0], joined), 1, "there is no supplementary file", joined)
+    refused(tool("join-debug", kept[0], joined), 2, "there is no supplementary file", joined)
     common.write_bytes(build("third.so", FIRST.replace("area", "surface")).read_bytes())
-    refused(tool("join-debug", kept[0], joined), 1, "is not the supplementary file", joined)
+    refused(tool("join-debug", kept[0], joined), 2, "is not the supplementary file", joined)
     common.write_bytes(contents[:len(contents) // 2])
-    refused(tool("join-debug", kept[0], joined), 1, "cut short", joined)
+    refused(tool("join-debug", kept[0], joined), 2, "cut short", joined)
 
 
 def test_a_supplementary_file_of_64_bit_dwarf_is_refused(build: Build, tmp_path: Path) -> None:
@@ -345,7 +345,7 @@ def test_a_supplementary_file_of_64_bit_dwarf_is_refused(build: Build, tmp_path:
     struct.pack_into("<I", contents, contents.index(info), 0xFFFFFFFF)
     common.write_bytes(contents)
     joined = tmp_path / "joined.so"
-    refused(tool("join-debug", parted[0], joined), 1, "64-bit format", joined)
+    refused(tool("join-debug", parted[0], joined), 2, "64-bit format", joined)
 
 
 def test_600_000_entries_are_joined_in_20_seconds(build: Build, tmp_path: Path) -> None:

@@ -14,10 +14,13 @@ import pytest
 from conftest import ROOT, TOOLS, Ended, done, needs, run
 
 from abi_packaging.program_needs import release_number
+from abi_tools.faults import PACKAGES
 
 VERSION = "9.8.7"
 TIME = "1700000000"
 NAMES = [f"abi_{VERSION}_amd64.deb", f"dh-abi_{VERSION}_all.deb", f"abi-{VERSION}-1.x86_64.rpm", f"abi-{VERSION}-x86_64.tar.xz"]
+# The crates of the kit that crates.txt names.
+KIT_CRATES = ("byteorder", "clap", "hex", "itoa", "regex", "regex_hir", "regex_syntax", "serde_json", "sha2", "strsim", "thiserror")
 INSTALLED_TOOLS = ("abi-report", "abi-gate", "abi-packages", "abi-baseline", "abi-release", "abi-history", "join-debug")
 
 
@@ -36,19 +39,28 @@ def installation(prefix: Path, *options: str) -> Path:
     for package in ("abi", "abi_tools", "abi_report", "abi_release", "abi_history"):
         shutil.copytree(TOOLS / package, tools / package, ignore=shutil.ignore_patterns("__pycache__"))
     shutil.copytree(ROOT / "share", prefix / "share")
+    for name in ("docs", "examples"):
+        shutil.copytree(ROOT / name, prefix / "share/doc/abi" / name, ignore=shutil.ignore_patterns("*.so*"))
+    for name in ("README.md", "CHANGELOG.md", "LICENSE"):
+        shutil.copy(ROOT / name, prefix / "share/doc/abi")
+    (prefix / "lib/rpm/macros.d").mkdir(parents=True)
+    shutil.copy(TOOLS / "rpm/macros.abi", prefix / "lib/rpm/macros.d")
     (tools / "abi_tools/__pycache__").mkdir()
     (tools / "abi_tools/__pycache__/starting.cpython-311.pyc").write_text("made at the installation")
     return prefix
 
 
 def make(prefix: Path, output: Path, *options: object) -> Ended:
-    """Runs make-packages, with a kit of the prover on the PATH."""
+    """Runs make-packages, with a kit of the prover on the PATH, whose crates all have a licence."""
     kit = prefix.parent / "kit"
-    kit.mkdir(exist_ok=True)
-    (kit / "rt").write_text("#!/bin/sh\necho kit 7\n")
-    (kit / "rt").chmod(0o755)
+    for crate in KIT_CRATES:
+        (kit / "rattle" / crate).mkdir(parents=True, exist_ok=True)
+        (kit / "rattle" / crate / "LICENSE-MIT").write_text(f"the licence of {crate}\n")
+    (kit / "bin").mkdir(exist_ok=True)
+    (kit / "bin/rt").write_text(f"#!/bin/sh\ncase $1 in\ndoc) echo '{kit}/START.md' ;;\nversion) echo kit 7 ;;\nesac\n")
+    (kit / "bin/rt").chmod(0o755)
     output.mkdir(exist_ok=True)
-    return run("env", f"SOURCE_DATE_EPOCH={TIME}", f"PATH={kit}:{os.environ['PATH']}", TOOLS / "make-packages", "--version", VERSION,
+    return run("env", f"SOURCE_DATE_EPOCH={TIME}", f"PATH={kit / 'bin'}:{os.environ['PATH']}", TOOLS / "make-packages", "--version", VERSION,
                *options, prefix, output)
 
 
@@ -99,7 +111,16 @@ def test_packages_hold_what_is_installed(made: Path, tmp_path: Path) -> None:
         assert {path.name for path in (top / "share/man/man1").iterdir()} == {f"{name}.1.gz" for name in ("abi", "abi-json", *INSTALLED_TOOLS)}
         assert not list(top.rglob("__pycache__"))
         assert (top / "share/doc/abi/copyright").read_bytes() == (ROOT / "LICENSE").read_bytes()
-        assert (top / "share/doc/abi/licences/library.txt").read_text() == "as you like\n"
+        licences = top / "share/doc/abi/licences"
+        assert (licences / "library.txt").read_text() == "as you like\n"
+        assert {path.name for path in licences.iterdir()} == {
+            "library.txt", "libc.a.copyright", "libgcc.a.copyright", *(f"{crate}.LICENSE-MIT" for crate in KIT_CRATES)}
+        assert "GNU Lesser General Public" in (licences / "libc.a.copyright").read_text()
+        assert "LIBRARY EXCEPTION" in (licences / "libgcc.a.copyright").read_text().upper()
+        for name in ("docs/GUIDE.md", "docs/report.schema.json", "examples/debian/debian/rules", "README.md"):
+            assert (top / "share/doc/abi" / name).read_bytes() == (ROOT / name).read_bytes()
+        assert os.access(top / "share/doc/abi/examples/debian/debian/rules", os.X_OK)
+        assert (top / "lib/rpm/macros.d/macros.abi").is_file()
         assert (top / "share/bash-completion/completions/abi").is_file()
 
 
@@ -117,7 +138,9 @@ def test_the_record_says_what_the_programs_come_from(made: Path, tmp_path: Path)
 def test_fields_owners_and_times(made: Path) -> None:
     deb, dh_abi, rpm, archive = (made / "made" / name for name in NAMES)
     assert done("dpkg-deb", "-f", deb, "Depends").strip() == "python3"
-    assert "libarchive-tools" in done("dpkg-deb", "-f", deb, "Recommends").strip().split(", ")
+    named = {name for field in ("Recommends", "Suggests") for name in done("dpkg-deb", "-f", deb, field).strip().split(", ")}
+    # dask comes with distributed
+    assert set(PACKAGES.values()) - named == {"python3-dask"}
     assert done("dpkg-deb", "-f", dh_abi, "Provides").strip() == f"dh-sequence-abi (= {VERSION})"
     assert done("dpkg-deb", "-f", dh_abi, "Depends").startswith(f"abi (= {VERSION}), debhelper")
     assert {line.split()[1] for line in done("dpkg-deb", "-c", deb).splitlines()} == {"root/root"}
@@ -133,11 +156,12 @@ def test_a_program_for_a_newer_c_library_is_refused(tmp_path: Path) -> None:
     shown = done("readelf", "--version-info", "--wide", prefix / "bin/abi")
     newest = max((word.removeprefix("GLIBC_") for word in shown.split() if word.startswith("GLIBC_2")), key=release_number)
     ended = make(prefix, tmp_path / "made", "--libc", "2.2")
-    assert ended.status == 1 and f"needs version {newest} of the C library, which is newer than 2.2" in ended.errors
+    assert ended.status == 2 and f"needs version {newest} of the C library, which is newer than 2.2" in ended.errors
     assert list((tmp_path / "made").iterdir()) == []
     ended = make(prefix, tmp_path / "made", "--libc", newest)
     assert ended.status == 0, ended
     assert done("dpkg-deb", "-f", tmp_path / "made" / NAMES[0], "Depends").strip() == f"libc6 (>= {newest}), python3"
+    assert "libc.a" not in done("dpkg-deb", "-c", tmp_path / "made" / NAMES[0])
     assert f"libc.so.6(GLIBC_{newest})(64bit)" in done("rpm", "-qp", "--requires", tmp_path / "made" / NAMES[2]).split()
 
 
@@ -150,11 +174,11 @@ def test_what_is_no_installation_of_these_sources_is_refused(made: Path, tmp_pat
         before = (prefix / name).read_bytes()
         (prefix / name).write_text("something else\n")
         ended = make(prefix, tmp_path / "made")
-        assert ended.status == 1 and words in ended.errors and len(ended.errors.splitlines()) == 1, ended
+        assert ended.status == 2 and words in ended.errors and len(ended.errors.splitlines()) == 1, ended
         (prefix / name).write_bytes(before)
     (prefix / "bin/abi").unlink()
     ended = make(prefix, tmp_path / "made")
-    assert ended.status == 1 and "is no folder into which install.sh installed" in ended.errors
+    assert ended.status == 2 and "is no folder into which install.sh installed" in ended.errors
     assert make(prefix, tmp_path / "made", "--version", "1-2").status == 64
     assert list((tmp_path / "made").iterdir()) == []
 

@@ -12,10 +12,12 @@ from conftest import ROOT, TOOLS, abi, done, needs, run
 
 from abi_manual.command import SHARE, made
 from abi_manual.sources import read_manual
+from abi_manual.tool_arguments import parser_of
+from abi_tools.arguments import Arguments
 
 _TEXT = ROOT / "crates" / "cli_args" / "src" / "commands.rt"
 _PAGES = ["man/man1/abi.1", "man/man1/abi-json.1"]
-_COMPLETIONS = ["abi", "abi-json"]
+_COMPLETIONS = ["abi", "abi-json", *read_manual().tools]
 
 
 def test_the_usage_text_is_that_of_the_program() -> None:
@@ -68,6 +70,53 @@ def test_pages_of_tools_name_all_options_and_statuses(name: str) -> None:
     assert all(f"\n\\fB{first or second}\\fR\n" in text for first, second in statuses)
 
 
+_MODULES = {name: tool["module"] for name, tool in read_manual().tools.items()}
+_MODULES |= {"make-packages": "abi_packaging.command", "make-manual": "abi_manual.command"}
+
+
+@pytest.mark.parametrize("name", _MODULES)
+def test_help_keeps_to_the_width(name: str, monkeypatch: pytest.MonkeyPatch) -> None:
+    for columns in (64, 80, 132):
+        monkeypatch.setenv("COLUMNS", str(columns))
+        printed = parser_of(_MODULES[name]).format_help()
+        assert printed.startswith(f"usage: {name} ") and max(map(len, printed.splitlines())) < columns
+
+
+def test_help_fills_paragraphs_and_lists() -> None:
+    parser = Arguments("tool", "One sentence\nin two lines.", "After it:\n  0   yes: one two\n      three\n  64  wrong\n")
+    with pytest.MonkeyPatch.context() as patch:
+        patch.setenv("COLUMNS", "18")
+        printed = parser.format_help()
+    assert "\n\nOne sentence in\ntwo lines.\n\n" in printed
+    assert printed.endswith("\n\nAfter it:\n  0   yes: one\n      two three\n  64  wrong\n")
+
+
+def test_the_page_of_abi_says_what_to_do_about_each_rule() -> None:
+    """The words are those of the guide."""
+    text = (SHARE / _PAGES[0]).read_text()
+    words = [f"{kind}{number}" for kind, last in (("X", 6), ("L", 14)) for number in range(1, last + 1)]
+    assert re.findall(r"\n\.TP\n\\fB([XL]\d+)\\fR \S", text) == words
+    assert "allocates too little" in text and "Keep the soname, or ship both libraries." in text
+
+
+def test_pages_name_the_variables_that_programs_read() -> None:
+    sources = {"abi": ROOT / "crates/abi_cli/src", "abi-json": ROOT / "crates/abi_json/src"}
+    for program, folder in sources.items():
+        read = {name for path in folder.glob("*.rt") for name in re.findall(r'"(ABI_[A-Z]+)"', path.read_text())}
+        page = (SHARE / f"man/man1/{program}.1").read_text()
+        assert read and read == set(re.findall(r"\n\\fB(ABI_[A-Z]+)\\fR\n", page[page.index(".SH ENVIRONMENT"):])), program
+    for name, tool in read_manual().tools.items():
+        page = (SHARE / f"man/man1/{name}.1").read_text()
+        assert all(f"\n\\fB{variable}\\fR\n" in page for variable in tool["environment"])
+
+
+def test_pages_of_the_programs_name_each_other_page() -> None:
+    names = {path.name.removesuffix(".1") for path in (SHARE / "man/man1").iterdir()}
+    for program in ("abi", "abi-json"):
+        text = (SHARE / f"man/man1/{program}.1").read_text().replace("\\-", "-")
+        assert names - {program} <= set(re.findall(r"^\.BR (\S+) \(1\)", text[text.index(".SH SEE ALSO"):], re.MULTILINE))
+
+
 def completed(program: str, *words: str) -> list[str]:
     """The completions that bash offers for the last of some words."""
     script = f"""
@@ -94,42 +143,113 @@ def test_completion() -> None:
     assert completed("abi-json", "app", "-") == ["--rules"]
 
 
+@pytest.mark.parametrize("name", read_manual().tools)
+def test_completion_of_tools_offers_what_help_lists(name: str) -> None:
+    printed = parser_of(_MODULES[name]).format_help()
+    options = re.findall(r"^  (?:-\w, )?(--[a-z-]+)", printed, re.MULTILINE)
+    assert completed(name, "-") == sorted(options)
+
+
+def test_completion_of_values(tmp_path: Path) -> None:
+    (tmp_path / "folder").mkdir()
+    (tmp_path / "file").write_text("")
+    assert completed("abi-report", "--format", "") == ["html", "json", "text"]
+    assert completed("abi-report", "--format", "=", "h") == ["html"]
+    assert completed("abi-report", "--headers", f"{tmp_path}/f") == [f"{tmp_path}/folder"]
+    assert completed("abi-gate", "--rules", f"{tmp_path}/f") == []
+    assert completed("abi-packages", "--only", "n") == ["new", "no"]
+    assert completed("join-debug", "--root", f"{tmp_path}/") == [f"{tmp_path}/folder"]
+
+
 @pytest.mark.parametrize("program", _COMPLETIONS)
 def test_completions_are_scripts(program: str) -> None:
     done("bash", "-n", SHARE / "bash-completion" / "completions" / program)
 
 
-def test_install_puts_everything_in_place(tmp_path: Path) -> None:
-    """A stand-in for the toolchain says that everything is proved, and builds programs that end with status 64."""
-    for name in ("install.sh", "crates.txt", "HANDLES", "tools", "share"):
-        done("cp", "-r", ROOT / name, tmp_path / name)
-    for crate in re.findall(r"^(\w+):", (ROOT / "crates.txt").read_text(), re.MULTILINE):
-        (tmp_path / "crates" / crate).mkdir(parents=True)
-    stand_in = tmp_path / "bin" / "rt"
-    stand_in.parent.mkdir()
-    stand_in.write_text("""#!/bin/sh
+_TOOLCHAIN = """#!/bin/sh
+if [ "$1" = doc ]; then echo "$(dirname "$0")/START-HERE.md"; exit 0; fi
 for crate in abi_cli abi_json; do
     echo "== $crate"
     [ -z "$RESULT" ] || { echo "rt: $crate failed"; exit 1; }
     mkdir -p "crates/$crate/out"
-    printf '#!/bin/sh\\necho %s\\nexit 64\\n' "$crate" >"crates/$crate/out/$crate"
-    chmod +x "crates/$crate/out/$crate"
+    printf '#include <stdio.h>\\nint library(void);\\nint main(void) { puts("%s"); return library(); }\\n' "$crate" >"crates/$crate/out/$crate.c"
+    gcc -fPIE -c -o "crates/$crate/out/$crate.o" "crates/$crate/out/$crate.c"
+    gcc -o "crates/$crate/out/$crate" "crates/$crate/out/$crate.o" "$(dirname "$0")"/c/*.a
 done
-""")
-    stand_in.chmod(0o755)
-    path = f"{stand_in.parent}:{os.environ['PATH']}"
-    prefix = tmp_path / "prefix"
-    failed = run("env", f"PATH={path}", "RESULT=refused", tmp_path / "install.sh", prefix)
+"""
+
+
+@pytest.fixture
+def sources(tmp_path: Path, monkeypatch: pytest.MonkeyPatch) -> Path:
+    """A copy of what install.sh reads, and on the PATH a stand-in for the toolchain: it says that everything is proved, and builds
+    programs that end with status 64, which a function of the kit's archives returns."""
+    needs("gcc", "ar")
+    for name in ("install.sh", "crates.txt", "HANDLES", "tools", "share", "docs", "examples", "README.md", "CHANGELOG.md", "LICENSE"):
+        done("cp", "-r", ROOT / name, tmp_path / name)
+    for crate in re.findall(r"^(\w+):", (ROOT / "crates.txt").read_text(), re.MULTILINE):
+        (tmp_path / "crates" / crate).mkdir(parents=True)
+    kit = tmp_path / "kit"
+    (kit / "c").mkdir(parents=True)
+    (kit / "rt").write_text(_TOOLCHAIN)
+    (kit / "rt").chmod(0o755)
+    for name, text in (("libos_c", "int library(void) { return 64; }"), ("liblibc_c", "int nothing(void) { return 0; }")):
+        (kit / "c" / f"{name}.c").write_text(text)
+        done("gcc", "-c", "-o", kit / "c" / f"{name}.o", kit / "c" / f"{name}.c")
+        done("ar", "rc", kit / "c" / f"{name}.a", kit / "c" / f"{name}.o")
+    monkeypatch.setenv("PATH", f"{kit}:{os.environ['PATH']}")
+    return tmp_path
+
+
+def test_install_puts_everything_in_place(sources: Path) -> None:
+    prefix = sources / "prefix"
+    failed = run("env", "RESULT=refused", sources / "install.sh", prefix)
     assert failed.status == 1 and "nothing is installed" in failed.errors and not prefix.exists(), failed
     for _ in range(2):
-        done("env", f"PATH={path}", tmp_path / "install.sh", prefix)
-    assert [run(prefix / "bin" / name).out for name in ("abi", "abi-json")] == ["abi_cli\n", "abi_json\n"]
-    for tool in ("abi-report", "abi-gate", "abi-packages", "abi-baseline", "join-debug"):
-        ended = run(prefix / "bin" / tool, "--help")
-        assert ended.status == 0 and ended.out.startswith(f"usage: {tool}"), ended
+        done(sources / "install.sh", prefix)
+    for name, crate in (("abi", "abi_cli"), ("abi-json", "abi_json")):
+        ended = run(prefix / "bin" / name)
+        assert (ended.status, ended.out) == (64, f"{crate}\n")
+    ended = run(prefix / "bin/abi-baseline", "--help")
+    assert ended.status == 0 and ended.out.startswith("usage: abi-baseline"), ended
+    assert {path.name for path in (prefix / "bin").iterdir()} == {"abi", "abi-json", *read_manual().tools}
+    assert all((prefix / "bin" / name).resolve() == prefix / "lib/abi/tools" / name for name in read_manual().tools)
     for name, text in made().items():
         assert (prefix / "share" / name).read_text() == text
-    # Users may not write there, so the modules are compiled.
-    installed = prefix / "lib" / "abi" / "tools" / "abi_report"
-    assert {path.name.split(".")[0] for path in (installed / "__pycache__").glob("*.pyc")} == {path.stem for path in installed.glob("*.py")}
-    assert list((installed / "__pycache__").glob("*.cache"))
+    assert (prefix / "lib/rpm/macros.d/macros.abi").read_bytes() == (TOOLS / "rpm/macros.abi").read_bytes()
+    assert list(prefix.rglob("__pycache__")) == []
+
+
+def test_installed_pages_lead_to_each_other(sources: Path) -> None:
+    """So do the schemas and recipes that they name. Links into the sources of the programs and their measurements lead nowhere."""
+    prefix = sources / "prefix"
+    done(sources / "install.sh", prefix)
+    folder = prefix / "share/doc/abi"
+    assert (folder / "LICENSE").read_bytes() == (ROOT / "LICENSE").read_bytes()
+    assert {path.name for path in (ROOT / "docs").iterdir()} == {path.name for path in (folder / "docs").iterdir()}
+    assert os.access(folder / "examples/debian/debian/rules", os.X_OK) and not os.access(folder / "README.md", os.X_OK)
+    links = [page.parent / link for page in folder.rglob("*.md") for link in re.findall(r"\]\(([^)#:]+)(?:#[^)]*)?\)", page.read_text())]
+    sought = [Path(os.path.normpath(link)) for link in links]
+    left = ("bench", "crates", "tests", "edits", "tools", "CONTRIBUTING.md", "crates.txt")
+    assert len(sought) > 50
+    assert {str(link.relative_to(folder)) for link in sought if not link.exists() and link.relative_to(folder).parts[0] not in left} == set()
+
+
+def test_install_into_a_folder_of_packagers_and_statically(sources: Path) -> None:
+    needs("readelf")
+    staged = sources / "staged"
+    done("env", f"DESTDIR={staged}", sources / "install.sh", "--static", "/usr")
+    assert [path.name for path in staged.iterdir()] == ["usr"]
+    program = staged / "usr/bin/abi"
+    ended = run(program)
+    assert (ended.status, ended.out) == (64, "abi_cli\n")
+    assert "(NEEDED)" not in done("readelf", "--wide", "--dynamic", program)
+    assert "INTERP" not in done("readelf", "--wide", "--program-headers", program)
+    before = program.read_bytes()
+    done("env", f"DESTDIR={staged}", sources / "install.sh", "--static", "/usr")
+    assert program.read_bytes() == before
+
+
+@pytest.mark.parametrize("words", (["--statically"], ["a", "b"], ["--static", "-x"]))
+def test_wrong_arguments_install_nothing(words: list[str]) -> None:
+    ended = run(ROOT / "install.sh", *words)
+    assert ended.status == 64 and ended.errors.startswith("usage: ./install.sh")

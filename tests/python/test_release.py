@@ -31,8 +31,12 @@ from abi_release.stored_files import Store
 from abi_tools.package_sides import Side
 from conftest import ROOT, TOOLS, Ended, build_id, done, run, split, system_place
 from distributed import KilledWorker
-from release_support import (LIBRARIES, THREE, answers, bundle, deb, judged, library, lines, packaged, release, results, started, stop,
-                             table, three, tree, unmeasured, wait_for, wrapper_of)
+from release_support import (LIBRARIES, THREE, TOOL, answers, bundle, deb, judged, library, lines, packaged, release, results, started,
+                             stop, table, three, tree, unmeasured, wait_for, wrapper_of)
+from report_support import needs_json
+
+
+KILLED = "the worker died over it: the signal SIGKILL ended it: perhaps the machine ran out of memory"
 
 
 def test_a_release_and_the_next(tmp_path: Path) -> None:
@@ -119,13 +123,42 @@ def test_each_library_of_a_package_is_a_task(tmp_path: Path) -> None:
     wrapper = wrapper_of(tmp_path, f"[ -e {tmp_path}/go ] || case \"$judged\" in *libpart1.so.1*) kill -9 $worker; sleep 10 ;; esac")
     ended = release(tmp_path, out="killed", wrapper=wrapper)
     assert ended.status == 1 and answers(tmp_path, "killed") == {**wanted, "bundle libpart1.so.1": "cannot tell"}, ended
-    assert lines(tmp_path, "killed")["bundle libpart1.so.1"]["reason"] == "the worker died over it"
+    assert lines(tmp_path, "killed")["bundle libpart1.so.1"]["reason"] == KILLED
     (tmp_path / "go").touch()
     ended = release(tmp_path, out="killed", wrapper=wrapper)
     assert ended.status == 1 and judged(ended) == (1, 4), ended
     assert unmeasured(table(tmp_path)) == unmeasured(table(tmp_path, "killed"))
     assert list((tmp_path / "killed/opened").iterdir()) == []
     assert judged(release(tmp_path, out="killed", wrapper=wrapper)) == (0, 5)
+
+
+def test_each_no_has_a_page_of_what_changed(tmp_path: Path) -> None:
+    """On request: it is made once for equal libraries, it is not made again, and the table has the same digest with and without it."""
+    needs_json()
+    three(tmp_path)
+    for side in ("old", "new"):
+        shutil.copy(tmp_path / side / "lib1_1_amd64.deb", tmp_path / side / "copy_1_amd64.deb")
+    ended = release(tmp_path, "--reports", "pages")
+    assert ended.status == 1, ended
+    found = lines(tmp_path)
+    page = tmp_path / "out" / found["lib1 lib1.so.1"]["page"]
+    assert list((tmp_path / "pages").iterdir()) == [page.resolve()] and "struct point" in page.read_text()
+    assert found["copy lib1.so.1"]["page"] == found["lib1 lib1.so.1"]["page"]
+    assert [name for name, line in found.items() if "page" in line] == ["copy lib1.so.1", "lib1 lib1.so.1"]
+    assert f'href="../pages/{page.name}"' in (tmp_path / "out/index.html").read_text()
+    made = page.stat().st_mtime_ns
+    assert release(tmp_path, "--reports", "pages").status == 1 and page.stat().st_mtime_ns == made
+    with_pages = table(tmp_path)["digest"]
+    assert release(tmp_path).status == 1 and table(tmp_path)["digest"] == with_pages and "page" not in lines(tmp_path)["lib1 lib1.so.1"]
+    # what cannot be made is said, and changes no answer
+    page.unlink()
+    (tmp_path / "abi_json").write_text("#!/bin/sh\nexit 2\n")
+    (tmp_path / "abi_json").chmod(0o755)
+    ended = release(tmp_path, "--reports", "pages", before=("env", f"ABI_JSON={tmp_path / 'abi_json'}"))
+    assert ended.status == 1 and "1 of 1 pages of abi-report could not be made" in ended.errors, ended
+    assert table(tmp_path)["digest"] == with_pages
+    ended = release(tmp_path, "--reports", "pages", out="other", before=("env", "ABI_JSON=none"))
+    assert ended.status == 2 and "there is no program none" in ended.errors and not (tmp_path / "other/table.txt").exists(), ended
 
 
 def test_results_that_are_in_pieces_are_judged_again(tmp_path: Path) -> None:
@@ -198,7 +231,7 @@ def test_a_worker_that_is_killed_loses_nothing(tmp_path: Path) -> None:
     wrapper = wrapper_of(tmp_path, f"case \"$judged\" in *lib1.so.1*) echo >>{tmp_path}/deaths; kill -9 $worker; sleep 10 ;; esac")
     ended = release(tmp_path, wrapper=wrapper, out="other")
     assert ended.status == 2 and answers(tmp_path, "other") == {**THREE, "lib1 lib1.so.1": "cannot tell"}, ended
-    assert lines(tmp_path, "other")["lib1 lib1.so.1"]["reason"] == "the worker died over it"
+    assert lines(tmp_path, "other")["lib1 lib1.so.1"]["reason"] == KILLED
     # twice, and once more if Dask itself gives the task to the next worker before it reports the death
     assert len((tmp_path / "deaths").read_text()) in (2, 3)
     # the next run tries it again
@@ -474,6 +507,27 @@ def test_libraries_that_ask_for_gigabytes_cost_a_line_each(tmp_path: Path) -> No
     assert "its program headers are damaged" in reasons["libasks"]
 
 
+def test_abi_that_gives_no_answer_is_told_as_what_it_was(tmp_path: Path) -> None:
+    """Memory ran out under the limit, a signal ended it, and it ended with a status that it does not have."""
+    three(tmp_path)
+    ways = {"lib0": "echo 'out of memory' >&2; exit 4", "lib1": "kill -9 $$", "lib2": "exit 1"}
+    text = " ".join(f"*{name}.so.1*) {way} ;;" for name, way in ways.items())
+    ended = release(tmp_path, "--memory", 900, "--tries", 1, wrapper=wrapper_of(tmp_path, f"case \"$judged\" in {text} esac"))
+    assert ended.status == 2 and {line["answer"] for line in lines(tmp_path).values()} == {"cannot tell"}, ended
+    assert [line["reason"] for line in lines(tmp_path).values()] == [
+        "abi ran out of memory under its limit of 900 MB",
+        "abi gave no answer: the signal SIGKILL ended it: perhaps the machine ran out of memory", "abi ended with status 1"]
+
+
+def test_what_cannot_be_printed_is_no_answer(tmp_path: Path) -> None:
+    """Standard output is a full disk: the tables are there, and the status is that of a fault."""
+    three(tmp_path)
+    with Path("/dev/full").open("wb") as full:
+        ended = subprocess.run([TOOL, "old", "new", "--out", "out", "--workers", "1"], cwd=tmp_path, stdout=full, stderr=subprocess.PIPE,
+                               text=True, check=False)
+    assert ended.returncode == 2 and "No space left on device" in ended.stderr and answers(tmp_path) == THREE
+
+
 def test_a_library_that_takes_too_long_costs_a_line(tmp_path: Path) -> None:
     three(tmp_path)
     wrapper = wrapper_of(tmp_path, 'case "$judged" in *lib1.so.1*) while :; do :; done ;; esac')
@@ -531,8 +585,10 @@ def test_wrong_arguments_and_folders(tmp_path: Path) -> None:
     (tmp_path / "new").mkdir()
     assert "holds neither packages nor unpacked trees" in release(tmp_path).errors
     three(tmp_path)
-    for options, words in ((("--rules", "none"), "there is no rule file none"), (("--tries", "0"), "0 is not above 0"),
-                           (("more",), "unrecognized arguments")):
+    for options, words in ((("--rules", "none"), "there is no rule file none"), (("--tries", "0"), "0 is no number from 1"),
+                           (("more",), "unrecognized arguments"), (("--memory", "9" * 30), "is no number from 1 to 1000000000"),
+                           (("--seconds", "many"), "many is no number from 1"), (("--patience", "nan"), "nan is no number of seconds"),
+                           (("--require-types", "101"), "is no share of 100")):
         ended = release(tmp_path, *options)
         assert ended.status == (2 if "--rules" in options else 64) and words in ended.errors, ended
     rules = tmp_path / "rules"

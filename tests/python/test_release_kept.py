@@ -5,8 +5,10 @@ from __future__ import annotations
 import os
 import shutil
 import signal
+import struct
 import subprocess
 from pathlib import Path
+from typing import Callable
 
 import pytest
 from conftest import TOOLS, build_id, done, split, system_place
@@ -114,6 +116,38 @@ def test_a_library_is_not_gone_if_a_new_package_could_not_be_read(tmp_path: Path
     assert release(tmp_path).status == 1 and answers(tmp_path)["before libmoved.so.1"] == "gone"
 
 
+def without_segments(place: Path) -> None:
+    """Makes a library one that no loader takes: its header says that it has no segments."""
+    contents = bytearray(place.read_bytes())
+    struct.pack_into("<H", contents, 56, 0)
+    place.write_bytes(contents)
+
+
+def cut(place: Path) -> None:
+    """Makes a library a file of which only the header is left."""
+    place.write_bytes(place.read_bytes()[:64])
+
+
+@pytest.mark.parametrize("damage, folders, words", [
+    (cut, ("",), f"of the new packages these could not be read: {LIBRARIES}/libmoved.so.1 in after_1_amd64.deb"),
+    (without_segments, ("",), "nothing says which library of other new packages replaces it"),
+    (lambda _: None, ("", "/some"), "nothing says which library of other new packages replaces it"),
+])
+def test_a_library_that_another_package_could_not_give_is_not_gone(tmp_path: Path, damage: Callable[[Path], None], folders: tuple[str, ...],
+                                                                   words: str) -> None:
+    """The other package was read; the file in it that is the library, or may be it, was not; or it has several."""
+    three(tmp_path)
+    moved = library(tmp_path, "libmoved.so.1", number=7)
+    packaged(tmp_path / "old", moved, package="before")
+    damage(moved)
+    deb(tmp_path / "new", "after", {f"{LIBRARIES}{folder}/libmoved.so.1": moved for folder in folders})
+    ended = release(tmp_path)
+    assert ended.status == 1 and lines(tmp_path)["before libmoved.so.1"]["answer"] == "cannot tell", ended
+    assert words in lines(tmp_path)["before libmoved.so.1"]["reason"]
+    # nothing but this is a no
+    assert {name for name, answer in answers(tmp_path).items() if answer in ("no", "gone")} == {"lib1 lib1.so.1"}
+
+
 def test_a_library_that_moved_is_not_gone_if_it_cannot_be_judged(tmp_path: Path) -> None:
     """Nor if several packages have got it."""
     three(tmp_path)
@@ -139,21 +173,30 @@ def test_libraries_of_debug_packages_have_no_lines(tmp_path: Path) -> None:
     assert answers(tmp_path) == {"libone libone.so.1": "yes", "libtwo libtwo.so.1": "yes"}
 
 
-@pytest.mark.parametrize("number", [signal.SIGTERM, signal.SIGKILL])
+@pytest.mark.parametrize("number", [signal.SIGTERM, signal.SIGKILL], ids=["gracefully", "killed"])
 def test_workers_and_schedulers_that_end(tmp_path: Path, number: signal.Signals) -> None:
-    """Workers and the scheduler of a cluster end, gracefully or not, while `abi` runs, and start again: the table stays the same."""
+    """Workers and the scheduler of a cluster end, gracefully or not, while `abi` runs, and start again: the table stays the same. Each
+    moment comes when `abi` was started anew since the moment before, and lets some libraries be judged."""
+    names = [*(f"libpart{one}.so.1" for one in range(8)), *(f"lib{one}.so.1" for one in range(3))]
     bundle(tmp_path, count=8)
     three(tmp_path)
     assert release(tmp_path).status == 1
-    wrapper = wrapper_of(tmp_path, "[ \"$1\" != check ] || sleep 1")
+    runs = tmp_path / "runs"
+    runs.touch()
+    wrapper = wrapper_of(tmp_path, f"[ \"$1\" != check ] || {{ echo >>{runs}; while [ ! -e {tmp_path}/go-$judged ]; do sleep 0.1; done; }}")
     with Cluster(tmp_path, workers=2) as cluster:
         process = started(tmp_path, "--out", "other", "--scheduler", cluster.address, "--insecure", "--tries", 50, "--patience", 300,
                           wrapper=wrapper)
         for moment in range(_MOMENTS):
-            wait_for(lambda: process.poll() is not None or len(list((tmp_path / "other").glob("started/*"))) > 0)
+            before = runs.stat().st_size
+            wait_for(lambda: cluster.goes_on() and runs.stat().st_size > before)
+            assert process.poll() is None
             cluster.end(moment % 3, number)
             cluster.begin(moment % 3)
-        out, errors = process.communicate(timeout=900)
+            for name in names[len(names) * moment // _MOMENTS:len(names) * (moment + 1) // _MOMENTS]:
+                (tmp_path / f"go-{name}").touch()
+        wait_for(lambda: cluster.goes_on() and process.poll() is not None, seconds=900)
+        out, errors = process.communicate()
     assert process.returncode == 1 and table(tmp_path)["digest"] == table(tmp_path, "other")["digest"], (out, errors)
 
 

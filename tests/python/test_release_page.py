@@ -14,6 +14,7 @@ from typing import Any, Iterator
 import pytest
 from abi_release.pages import write_page
 from abi_release.tables import text_of
+from conftest import ROOT
 
 Json = dict[str, Any]
 # How many lines are printed.
@@ -53,7 +54,7 @@ def written(folder: Path, lines: list[Json]) -> str:
 SOME = [
     line(1, compared=3, typed=2, certificate="results/a b.cert", measured={"seconds": 1, "megabytes": 2}),
     line(2, "cannot tell", reason="old has no debug information", rule_file={"of": "new", "name": "usr/share/doc/a/abi.rules"}),
-    line(3, "no", breaks={"L2": 3}, report="results/3.report", rule_file={"of": "run"},
+    line(3, "no", breaks={"L2": 3}, report="results/3.report", page="../pages/3.html", rule_file={"of": "run"},
          hit=[{"package": "hit", "depends": True, "exports": [], "imports": 0, "rebuilt": False}]),
     line(4, "gone"), line(5, "new", versions={"old": None, "new": "7"}),
     line(6, "cannot tell", library=None, reason="no space", tries=2),
@@ -65,12 +66,14 @@ def test_the_order_and_what_a_line_says(tmp_path: Path) -> None:
     rows = re.findall(r"<tr class=.*?(?=<tr|</tbody>)", page, re.DOTALL)
     texts = [" ".join(html.unescape(re.sub(r"<[^>]*>", " ", row)).split()) for row in rows]
     assert [text.partition(" libmade")[0] for text in texts] == ["no", "gone", "cannot tell", "cannot tell", "new", "yes"]
-    assert texts[0] == "no libmade3 1.3 → 2.3 libmade3.so.1 L2 3 rule file: that of the run report 1 package hit, depends, not rebuilt"
+    assert texts[0] == ("no libmade3 1.3 → 2.3 libmade3.so.1 L2 3 rule file: that of the run what changed report "
+                        "1 package hit, depends, not rebuilt")
     assert texts[2] == ("cannot tell libmade2 1.2 → 2.2 libmade2.so.1 old has no debug information "
                         "rule file: usr/share/doc/a/abi.rules of the new package")
     assert texts[3] == "cannot tell libmade6 1.6 → 2.6 no space (tried 2 times; the next run tries again)"
     assert texts[4] == "new libmade5 none → 7 libmade5.so.1"
     assert 'href="results/a%20b.cert"' in page and 'href="results/3.report"' in page and "http" not in page
+    assert 'href="../pages/3.html"' in page
     assert "Rule file: abi.rules" in page
 
 
@@ -105,21 +108,28 @@ def many(count: int) -> list[Json]:
     return [line(number, answers[number % 10], **({"reason": "no types"} if number % 10 == 8 else {})) for number in range(count)]
 
 
-def chromium(folder: Path, *options: str) -> subprocess.CompletedProcess[bytes]:
-    """Runs a browser without a window."""
+def needs_chromium() -> None:
+    """Skips a test if there is no browser."""
     if shutil.which("chromium") is None:
         pytest.skip("there is no chromium")
+
+
+def chromium(folder: Path, *options: str) -> subprocess.CompletedProcess[bytes]:
+    """Runs a browser without a window."""
+    needs_chromium()
     command = ["chromium", "--headless", "--no-sandbox", "--disable-gpu", f"--user-data-dir={folder / 'browser'}", *options]
     return subprocess.run(command, capture_output=True, check=True, timeout=900)
 
 
 def test_all_lines_are_printed(tmp_path: Path) -> None:
     """In a browser, which takes minutes for 30,000 lines."""
+    needs_chromium()
     if shutil.which("pdftotext") is None:
         pytest.skip("there is no pdftotext")
     written(tmp_path, many(_PRINTED))
     pdf = tmp_path / "all.pdf"
-    chromium(tmp_path, f"--print-to-pdf={pdf}", "--no-pdf-header-footer", (tmp_path / "index.html").as_uri())
+    subprocess.run(["/usr/bin/python3", ROOT / "bench/page.py", "--print", tmp_path / "index.html", pdf], check=True,
+                   timeout=900 + _PRINTED // 10)
     text = subprocess.run(["pdftotext", "-layout", pdf, "-"], capture_output=True, text=True, check=True).stdout
     assert len(set(re.findall(r"\blibmade(\d+)\b(?!\.so)", text))) == _PRINTED
 

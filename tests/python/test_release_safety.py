@@ -21,6 +21,7 @@ from pathlib import Path
 from typing import Iterator, Sequence
 
 import pytest
+from abi_release import workers
 from abi_release.package_cache import KeyedFile, PackageCache
 from abi_release.scratch import Scratch, sweep
 from abi_tools import unpacking
@@ -32,30 +33,10 @@ from cryptography import x509
 from cryptography.hazmat.primitives import hashes, serialization
 from cryptography.hazmat.primitives.asymmetric import rsa
 from cryptography.x509.oid import NameOID
-from release_support import LIBRARIES, THREE, Cluster, Host, answers, deb, library, release, started, three, tree, wait_for, wrapper_of
+from release_support import (LIBRARIES, THREE, Cluster, Host, answers, children, deb, is_alive, library, release, started, three, tree,
+                             wait_for, wrapper_of)
 
 _WAIT = "while [ ! -e {go} ]; do sleep 0.1; done"
-
-
-def children(process: int) -> set[int]:
-    """The processes that a process started, and those that they started."""
-    found = {process}
-    parents = {}
-    for path in Path("/proc").glob("[0-9]*/stat"):
-        with contextlib.suppress(OSError):
-            fields = path.read_text().rpartition(")")[2].split()
-            parents[int(path.parent.name)] = int(fields[1])
-    while more := {one for one, parent in parents.items() if parent in found} - found:
-        found |= more
-    return found
-
-
-def is_alive(process: int) -> bool:
-    """Whether a process goes on: one that has ended may wait for its parent."""
-    try:
-        return Path(f"/proc/{process}/stat").read_text().rpartition(")")[2].split()[0] != "Z"
-    except (FileNotFoundError, ProcessLookupError):
-        return False
 
 
 def listening(process: int) -> list[tuple[str, int]]:
@@ -206,6 +187,22 @@ def test_folders_of_others_are_not_used(tmp_path: Path) -> None:
     os.close(dead._lock)  # type: ignore[arg-type]  # pylint: disable=protected-access
     sweep(tmp_path)
     assert not dead.folder.exists()
+
+
+def test_a_worker_of_a_cluster_leaves_the_folders_of_runs_that_were_killed(tmp_path: Path, monkeypatch: pytest.MonkeyPatch) -> None:
+    """It does so when it works for the next run; the folder of a run for which it is working stays."""
+    monkeypatch.setattr("tempfile.tempdir", str(tmp_path))
+    monkeypatch.setattr(workers, "_IDLE", 0.0)
+    with workers.at_work("killed"):
+        killed = workers.places("killed").disk
+    assert stat.S_IMODE(killed.stat().st_mode) == 0o700
+    with workers.at_work("working"):
+        working = workers.places("working").disk
+        assert not killed.exists()
+        with workers.at_work("next"):
+            assert workers.places("next").disk.is_dir() and working.is_dir()
+    workers.leave_all()
+    assert list(tmp_path.iterdir()) == []
 
 
 def cache_of(folder: Path, megabytes: int = 100) -> PackageCache:

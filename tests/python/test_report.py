@@ -204,7 +204,42 @@ def test_statuses_where_it_cannot_be_told(project: Project) -> None:
         assert ended.out.startswith("cannot tell: ") and words in ended.out.splitlines()[0], ended
     for arguments in (("--format", "yaml", str(old), str(old)), (str(old),), ("--require-types", "101", str(old), str(old))):
         ended = report(*arguments)
-        assert ended.status == 2 and ended.errors.startswith("usage: abi-report"), ended
+        assert ended.status == 64 and ended.errors.startswith("usage: abi-report"), ended
+
+
+def test_lost_types_are_no_break_although_results_have_steps(project: Project) -> None:
+    """With -g1 a function has no type, so that its result is void."""
+    source = "struct pair { int a; long b; };\nlong total(struct pair *p) { return p->a + p->b; }\nint same(int x) { return x; }\n"
+    old = project.build("old", "", source)
+    new = project.build("new", "", source.replace("int a;", "int a, inserted;"), "-g1")
+    ended = report(old, new)
+    assert ended.status == 2 and ended.out.startswith("cannot tell: the types of 2 exports are gone"), ended
+
+
+def test_the_share_of_exports_with_types_is_said(project: Project) -> None:
+    """One of two functions is in assembler that gives it a size, and 90 of 100 must have types if nothing else is asked for."""
+    code = 'asm(".globl other; .type other, @function; other: ret; .size other, 1");\n'
+    old = project.build("old", "", f"int first(int a) {{ return a; }}\n{code}")
+    ended = report(old, old)
+    assert ended.status == 2 and ended.out.startswith("cannot tell: 1 of 2 exports have types in both libraries, which is less than 90 of 100")
+    ended = report("--require-types", "50", old, old)
+    assert ended.status == 0 and "2 exports compared, 1 with types in both libraries (50 % of the 2 that can have some)" in ended.out, ended
+
+
+def test_what_changed_is_said_also_where_it_cannot_be_told(project: Project) -> None:
+    """The types of both objects are gone: the answer names them, and so do the blocks."""
+    old = project.build("old", "", "int table[4] = { 1 }, size = 4;\nint take(int a) { return a; }\n")
+    home = project.folder / "new"
+    home.mkdir()
+    (home / "data.c").write_text("int table[4] = { 1 }, size = 4;\n")
+    (home / "take.c").write_text("int take(int a) { return a; }\n")
+    for name, option in (("data", "-g0"), ("take", "-g")):
+        done("gcc", "-c", "-fPIC", option, f"{name}.c", folder=home)
+    new = project.folder / "new.so"
+    done("gcc", "-shared", "-Wl,-soname,libstream.so.1", "-o", new, "data.o", "take.o", folder=home)
+    lines = report(old, new).out.splitlines()
+    assert lines[0].startswith("cannot tell: the types of 2 exports are gone: ") and "none of 2 objects, " in lines[0], lines
+    assert "folded" not in lines[0] and sum("its type information is gone" in line for line in lines) == 2, lines
 
 
 def test_a_file_that_cannot_be_read_is_named_with_the_words_of_the_system(project: Project) -> None:

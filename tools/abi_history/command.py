@@ -3,24 +3,30 @@
 from __future__ import annotations
 
 import argparse
+import contextlib
 import json
+import re
 import sys
 import tempfile
 from collections import Counter
+from functools import partial
 from pathlib import Path
 from typing import Any, Sequence
 
 from abi_tools.abi_program import Abi
-from abi_tools.arguments import Arguments, share
+from abi_tools.arguments import Arguments, add_require_types
 from abi_tools.counting import counted
 from abi_tools.faults import Fault
+from abi_tools.jobs import Failure, StepLimits, Steps, default_megabytes, processors
 from abi_tools.output_file import write_whole
 from abi_tools.verdicts import Verdict
 from abi_release.digests import OF_NOTHING, digest_of_file
-from abi_release.texts import shown
-from abi_history.judging import Cell, History, exports_of, file_of
+from abi_release.limited_program import CLOCK, Limits, check_time, limit_of
+from abi_release.scratch import Scratch, sweep
+from abi_release.texts import shown, whole_output
+from abi_history.judging import Cell, History, Judging, exports_of, file_of
 from abi_history.pages import page_of
-from abi_history.versions import Given, refuse_same_names, soname_of
+from abi_history.versions import Given, same_name, soname_of
 
 _DESCRIPTION = """\
 Says of successive versions of a library which later one may replace which earlier one. RELEASE is [NAME=]FILE: a library or a baseline
@@ -36,28 +42,31 @@ Exit status:
   2   it cannot tell for one step, and says no to none; also if an input cannot be read
   64  the arguments are wrong
 """
+_OUTPUTS = ("history.json", "index.html")
+_OF_PAIR = re.compile(r"[0-9]+-[0-9]+\.(cert|report)")
 
 
 def main(arguments: Sequence[str]) -> int:
     """Judges versions as the arguments say, and returns the verdict on the steps."""
+    with whole_output():
+        return _main(arguments)
+
+
+def _main(arguments: Sequence[str]) -> int:
     parser = _parser()
     given = parser.parse_args(arguments)
-    if len(given.release) < 2:
-        parser.error("a history needs two versions")
-    versions = [Given.parsed(text) for text in given.release]
-    refuse_same_names(versions)
+    versions = _versions(parser, given)
     if given.rules is not None and not given.rules.is_file():
         raise Fault(f"there is no rule file {given.rules}")
     Abi()
-    given.out.mkdir(parents=True, exist_ok=True)
-    with tempfile.TemporaryDirectory(prefix="abi-history-") as folder:
-        work = Path(folder).resolve()
-        for number, version in enumerate(versions):
-            why = version.put(work / file_of(number), work, given.library)
-            if why:
-                print(f"abi-history: {version.name} is judged as it was shipped: {shown(why)}", file=sys.stderr)
-        history = History(work, [version.name for version in versions], None if given.rules is None else given.rules.resolve(),
-                          given.require_types)
+    check_time()
+    _clear(given.out)
+    sweep(Path(tempfile.gettempdir()))
+    with contextlib.closing(Scratch.new(Path(tempfile.gettempdir()))) as scratch:
+        limits = Limits(given.memory or default_megabytes(given.workers), given.seconds, CLOCK * given.seconds, 0)
+        judging = Judging(scratch.folder, None if given.rules is None else given.rules.resolve(), given.require_types, limits)
+        history = History([version.name for version in versions], judging, given.workers)
+        _put(versions, given, judging)
         history.judge()
         _write(history, given)
     for cell in history.steps():
@@ -66,14 +75,54 @@ def main(arguments: Sequence[str]) -> int:
     return int(history.verdict())
 
 
+def _versions(parser: Arguments, given: argparse.Namespace) -> list[Given]:
+    """The versions of the command line. Ends with an error of arguments if it does not name each of them once."""
+    if len(given.release) < 2:
+        parser.error("a history needs two versions")
+    versions = [Given.parsed(text) for text in given.release]
+    twice = same_name(versions)
+    if twice is not None:
+        parser.error(f"two versions have the name {twice}: name them as NAME=FILE")
+    for version in versions:
+        if len(version.files) > 1 and not version.is_package:
+            parser.error(f"{version.name}: only packages have several files")
+    return versions
+
+
+def _clear(out: Path) -> None:
+    """Makes the folder, and removes what an earlier run left there: its certificates may be of other versions."""
+    out.mkdir(parents=True, exist_ok=True)
+    for place in out.iterdir():
+        if place.name in _OUTPUTS or _OF_PAIR.fullmatch(place.name):
+            place.unlink()
+
+
+def _put(versions: Sequence[Given], given: argparse.Namespace, judging: Judging) -> None:
+    """Puts the libraries into the folder, each in a process of its own. Raises a fault if that fails for one."""
+    work, limits = judging.folder, judging.limits
+    steps = [partial(version.put, work / file_of(number), work, given.library) for number, version in enumerate(versions)]
+    for number, why in sorted(Steps[str](StepLimits(limits.megabytes, limits.seconds), given.workers).run(steps)):
+        name = versions[number].name
+        if isinstance(why, Failure):
+            raise Fault(f"{name}: {why.reason}")
+        if why:
+            print(f"abi-history: {shown(name)} is judged as it was shipped: {shown(why)}", file=sys.stderr)
+
+
 def _parser() -> Arguments:
     parser = Arguments("abi-history", _DESCRIPTION, _STATUSES)
     parser.add_argument("--out", type=Path, default=Path("abi-history"), metavar="FOLDER",
                         help="where to put the page, the document, certificates and reports (default: abi-history)")
     parser.add_argument("--library", metavar="SONAME", help="the soname of the library in packages that have several")
     parser.add_argument("--rules", type=Path, metavar="FILE", help="a rule file of abi: then nothing is composed")
-    parser.add_argument("--require-types", type=share, default=0.0, metavar="SHARE",
-                        help="the percentage of compared exports that must have types in both libraries (default: at least one export)")
+    add_require_types(parser)
+    parser.add_argument("--workers", type=limit_of, default=processors(), metavar="N",
+                        help="how many pairs to judge at the same time (default: one for each processor)")
+    parser.add_argument("--memory", type=limit_of, metavar="MB",
+                        help="the memory limit of each run of abi, in megabytes (default: a worker's share of half of the memory, from "
+                             "1024 to 4096)")
+    parser.add_argument("--seconds", type=limit_of, default=600, metavar="S",
+                        help="the processor time limit of each run of abi (default: 600)")
     parser.add_argument("release", nargs="+", metavar="RELEASE")
     return parser
 
@@ -103,18 +152,23 @@ def _write(history: History, given: argparse.Namespace) -> None:
         if cell.file:
             write_whole(given.out / cell.file, cell.text.encode("utf-8", "surrogateescape"))
     document = document_of(history, OF_NOTHING if given.rules is None else digest_of_file(given.rules))
-    write_whole(given.out / "history.json", (json.dumps(document, indent=1, sort_keys=True) + "\n").encode())
-    write_whole(given.out / "index.html", page_of(history, document).encode("utf-8", "surrogateescape"))
+    write_whole(given.out / _OUTPUTS[0], (json.dumps(document, indent=1, sort_keys=True) + "\n").encode())
+    write_whole(given.out / _OUTPUTS[1], page_of(history, document).encode("utf-8", "surrogateescape"))
 
 
 def document_of(history: History, rules: str) -> dict[str, Any]:
     """The history as a document. Versions are counted from 0."""
-    places = [history.folder / file_of(number) for number in range(len(history.names))]
     pairs = [{"old": cell.old, "new": cell.new, "answer": cell.verdict.words(), "composed": cell.is_composed,
               **({"reasons": list(cell.reasons)} if cell.reasons else {}), **({"breaks": cell.breaks} if cell.rows else {}),
               **({"file": cell.file} if cell.file else {})} for _, cell in sorted(history.cells.items())]
-    return {"version": 1, "rules": rules, "require_types": history.least_share,
-            "versions": [{"name": name, "soname": soname_of(place), "digest": digest_of_file(place)}
-                         for name, place in zip(history.names, places)],
+    return {"version": 1, "rules": rules, "require_types": history.judging.least_share,
+            "versions": [_version(history, number, name) for number, name in enumerate(history.names)],
             "pairs": pairs,
             "exports": [{"export": one.label, "came": one.came, "last": one.last, "gaps": one.has_gaps} for one in exports_of(history)]}
+
+
+def _version(history: History, number: int, name: str) -> dict[str, Any]:
+    """A version: its soname, its digest, and how many exports it has (null if `abi` cannot read it)."""
+    place = history.judging.folder / file_of(number)
+    labels = history.known_labels(number)
+    return {"name": name, "soname": soname_of(place), "digest": digest_of_file(place), "exports": None if labels is None else len(labels)}

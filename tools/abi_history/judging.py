@@ -1,19 +1,22 @@
-"""Judges each pair of versions: steps by `abi check`, further ones by `abi compose` where each step is yes, and else by `abi check`."""
+"""Judges each pair of versions: steps by `abi check`, further ones by `abi compose` where each step is yes, and else by `abi check`. Each
+pair is judged in a process of its own, under limits, which ends with the tool."""
 
 from __future__ import annotations
 
 import itertools
-import os
 from collections import Counter
-from concurrent.futures import ThreadPoolExecutor
 from dataclasses import dataclass, field
+from functools import partial
 from pathlib import Path
-from typing import Optional, Sequence
+from typing import Callable, Iterator, Optional, Sequence, TypeVar
 
-from abi_tools.abi_program import YES, Abi, Answer
-from abi_tools.faults import Fault
-from abi_tools.gates import Judgement, Library, judge_answer
+from abi_release.limited_program import LimitedAbi, Limits
+from abi_tools.abi_program import YES
+from abi_tools.gates import Judgement, Library, judge, judge_answer
+from abi_tools.jobs import Failure, StepLimits, Steps
 from abi_tools.verdicts import Verdict
+
+Value = TypeVar("Value")
 
 
 def file_of(number: int) -> str:
@@ -35,6 +38,17 @@ class Cell:
     compared: int = 0
     typed: int = 0
 
+    @classmethod
+    def of(cls, old: int, new: int, judgement: Judgement, is_composed: bool = False) -> "Cell":
+        """The cell of a judgement."""
+        text = "" if judgement.answer is None else judgement.answer.text
+        return cls(old, new, judgement.verdict, judgement.reasons, text, is_composed, judgement.compared, judgement.typed)
+
+    @classmethod
+    def cannot_tell(cls, old: int, new: int, reason: str) -> "Cell":
+        """The cell of two versions of which nothing can be told."""
+        return cls(old, new, Verdict.CANNOT_TELL, (reason,), "", False)
+
     @property
     def rows(self) -> list[str]:
         """The breaks; empty unless the answer is no."""
@@ -53,75 +67,80 @@ class Cell:
         return f"{self.old + 1}-{self.new + 1}.{'cert' if self.verdict == Verdict.YES else 'report'}"
 
 
-@dataclass
-class History:
-    """The versions of a library in a folder, named by their numbers, and what is known of each pair."""
+@dataclass(frozen=True)
+class Judging:
+    """How two versions are judged: the folder of their files, the rule file, the share of exports that must have types, and the limits of
+    each run of `abi`. Its methods run in processes of their own."""
 
     folder: Path
-    names: Sequence[str]
     rules: Optional[Path]
     least_share: float
-    cells: dict[tuple[int, int], Cell] = field(default_factory=dict)
-    libraries: dict[int, Library | Fault] = field(default_factory=dict)
+    limits: Limits
 
-    def judge(self) -> None:
-        """Judges all pairs, several at a time: first the steps, and then longer ways by the certificates of shorter ones."""
-        with ThreadPoolExecutor(len(os.sched_getaffinity(0))) as pool:
-            self.libraries = dict(enumerate(pool.map(self._read, range(len(self.names)))))
-            for length in range(1, len(self.names)):
-                pairs = [(old, old + length) for old in range(len(self.names) - length)]
-                for cell in pool.map(self._cell, pairs):
-                    self.cells[cell.old, cell.new] = cell
+    def labels(self, number: int) -> list[str]:
+        """The exports of a version. Raises a fault if `abi` cannot read it."""
+        return sorted(export.label for export in self._abi().exports(Path(file_of(number))))
 
-    def _read(self, number: int) -> Library | Fault:
-        """A library, or why it cannot be read."""
-        try:
-            return Library.read(Abi(self.folder), Path(file_of(number)))
-        except Fault as fault:
-            return fault
-
-    def _cell(self, pair: tuple[int, int]) -> Cell:
-        old, new = pair
-        return self._composed(old, new) or self._judged(old, new, self._abi.check(self._name(old), self._name(new), self.rules))
+    def cell(self, old: int, new: int, is_composable: bool) -> Cell:
+        """The cell of two versions: by the certificates up to the version before the last and from there, if there are both. The
+        certificate of a yes is kept for longer ways."""
+        found = (self._composed(old, new) if is_composable else None) or self._judged(old, new)
+        if found.verdict == Verdict.YES:
+            (self.folder / found.file).write_text(found.text, "utf-8", "surrogateescape")
+        return found
 
     def _composed(self, old: int, new: int) -> Optional[Cell]:
-        """The cell of two versions by the certificates up to the version before the last and from there. None if one is missing, if they
-        cannot be composed, or if there is a rule file, since `abi compose` takes none."""
-        middle = new - 1
-        if self.rules is not None or middle == old:
+        """The cell by composed certificates; None if `abi` cannot compose them."""
+        numbers = old, new - 1, new
+        certificates = [f"{one + 1}-{two + 1}.cert" for one, two in itertools.pairwise(numbers)]
+        abi = self._abi()
+        answer = abi.run("compose", *map(file_of, numbers), *certificates)
+        if answer.status != YES or not answer.is_answer:
             return None
-        parts = [self.cells[old, middle], self.cells[middle, new]]
-        if any(part.verdict != Verdict.YES for part in parts):
-            return None
-        places = [self.folder / f"{one.old + 1}-{one.new + 1}.cert" for one in parts]
-        answer = self._abi.run("compose", *(str(self._name(number)) for number in (old, middle, new)), *(place.name for place in places))
-        return None if answer.status != YES or not answer.is_answer else self._judged(old, new, answer, is_composed=True)
+        first, second = (Library.read(abi, Path(file_of(number))) for number in (old, new))
+        return Cell.of(old, new, judge_answer(answer, first, second, self.least_share), is_composed=True)
 
-    def _judged(self, old: int, new: int, answer: Answer, is_composed: bool = False) -> Cell:
-        """The cell of two versions by an answer of `abi`. The certificate of a yes is kept for longer ways."""
-        judgement = self._judgement(old, new, answer)
-        cell = Cell(old, new, judgement.verdict, judgement.reasons, answer.text, is_composed, judgement.compared, judgement.typed)
-        if cell.verdict == Verdict.YES:
-            (self.folder / cell.file).write_text(answer.text, "utf-8", "surrogateescape")
-        return cell
+    def _judged(self, old: int, new: int) -> Cell:
+        abi = self._abi()
+        judgement = judge(abi, Path(file_of(old)), Path(file_of(new)), self.rules, self.least_share)
+        return Cell.cannot_tell(old, new, abi.trouble) if abi.trouble else Cell.of(old, new, judgement)
 
-    def _judgement(self, old: int, new: int, answer: Answer) -> Judgement:
-        libraries = self.libraries[old], self.libraries[new]
-        if not answer.is_answer:
-            return Judgement(Verdict.CANNOT_TELL, (answer.why(),), answer)
-        for library in libraries:
-            if isinstance(library, Fault):
-                return Judgement(Verdict.CANNOT_TELL, (str(library),), answer)
-        first, second = (library for library in libraries if isinstance(library, Library))
-        return judge_answer(answer, first, second, self.least_share)
+    def _abi(self) -> LimitedAbi:
+        return LimitedAbi(self.folder, self.limits)
 
-    @property
-    def _abi(self) -> Abi:
-        return Abi(self.folder)
 
-    def _name(self, number: int) -> Path:
-        """The file of a version, in the folder where `abi` runs."""
-        return Path(file_of(number))
+@dataclass
+class History:
+    """The versions of a library, and what is known of each pair and of the exports of each version. `workers` pairs are judged at the
+    same time."""
+
+    names: Sequence[str]
+    judging: Judging
+    workers: int
+    cells: dict[tuple[int, int], Cell] = field(default_factory=dict)
+    labels: dict[int, list[str] | Failure] = field(default_factory=dict)
+
+    def judge(self) -> None:
+        """Judges all pairs: first the steps, and then longer ways by the certificates of shorter ones."""
+        size = len(self.names)
+        self.labels = dict(self._done([partial(self.judging.labels, number) for number in range(size)]))
+        for length in range(1, size):
+            pairs = [(old, old + length) for old in range(size - length)]
+            work = [partial(self.judging.cell, *pair, self._is_composable(*pair)) for pair in pairs]
+            for number, found in self._done(work):
+                pair = pairs[number]
+                self.cells[pair] = Cell.cannot_tell(*pair, found.reason) if isinstance(found, Failure) else found
+
+    def _done(self, work: Sequence[Callable[[], Value]]) -> Iterator[tuple[int, Value | Failure]]:
+        limits = self.judging.limits
+        return Steps[Value](StepLimits(limits.megabytes, limits.seconds), self.workers).run(work)
+
+    def _is_composable(self, old: int, new: int) -> bool:
+        """Whether there are certificates up to the version before the last and from there. With a rule file nothing is composed, since
+        `abi compose` takes none."""
+        if self.judging.rules is not None or new - old == 1:
+            return False
+        return self.cells[old, new - 1].verdict == self.cells[new - 1, new].verdict == Verdict.YES
 
     def steps(self) -> list[Cell]:
         """The cells of each version and the next."""
@@ -135,14 +154,15 @@ class History:
     def exports(self) -> dict[str, list[int]]:
         """The exports of all versions, each with the numbers of the versions that have it, in the order in which they came."""
         found: dict[str, list[int]] = {}
-        for number, library in sorted(self.libraries.items()):
-            for label in sorted(library.by_label) if isinstance(library, Library) else ():
+        for number in range(len(self.names)):
+            for label in self.known_labels(number) or ():
                 found.setdefault(label, []).append(number)
         return found
 
-    def unread(self) -> list[int]:
-        """The versions whose exports cannot be read."""
-        return [number for number, library in self.libraries.items() if isinstance(library, Fault)]
+    def known_labels(self, number: int) -> Optional[list[str]]:
+        """The exports of a version; None if it cannot be read."""
+        labels = self.labels[number]
+        return None if isinstance(labels, Failure) else labels
 
 
 @dataclass(frozen=True)
@@ -157,12 +177,19 @@ class Export:
 
 def exports_of(history: History) -> list[Export]:
     """The exports in the order in which they came."""
-    found = [Export(label, numbers[0], numbers[-1], len(numbers) <= numbers[-1] - numbers[0])
-             for label, numbers in history.exports().items()]
+    unread = {number for number in range(len(history.names)) if history.known_labels(number) is None}
+    found = []
+    for label, numbers in history.exports().items():
+        between = set(range(numbers[0], numbers[-1])) - unread
+        found.append(Export(label, numbers[0], numbers[-1], not between <= set(numbers)))
     return sorted(found, key=lambda one: (one.came, one.last, one.label))
 
 
 def changes(history: History) -> list[tuple[list[str], list[str]]]:
-    """The exports that came and those that went, for each step."""
-    sets = [set() if isinstance(library, Fault) else set(library.by_label) for _, library in sorted(history.libraries.items())]
-    return [(sorted(new - old), sorted(old - new)) for old, new in itertools.pairwise(sets)]
+    """The exports that came and those that went, for each step. Nothing is known of a step from or to a version that cannot be read."""
+    found = []
+    for old, new in itertools.pairwise(history.known_labels(number) for number in range(len(history.names))):
+        is_known = old is not None and new is not None
+        before, after = set(old or ()) if is_known else set(), set(new or ()) if is_known else set()
+        found.append((sorted(after - before), sorted(before - after)))
+    return found

@@ -3,6 +3,7 @@
 from __future__ import annotations
 
 import shutil
+from collections import Counter
 from dataclasses import dataclass
 from pathlib import Path
 from typing import Optional, Sequence
@@ -43,8 +44,6 @@ class Given:
         """Puts the library, joined with its debug information, in its place, and returns why it could not be joined (empty if it was).
         Raises a fault if there is no such library, or if a package is damaged."""
         if not self.is_package:
-            if len(self.files) > 1:
-                raise Fault(f"{self.name}: only packages have several files")
             shutil.copyfile(self.files[0], place)
             return ""
         side = Side.unpacked(self.files, work / f"{place.name}-packages", shipping=1)
@@ -80,10 +79,7 @@ def soname_of(place: Path) -> str:
         return ""
 
 
-def refuse_same_names(versions: Sequence[Given]) -> None:
-    """Raises a fault if two versions have the same name."""
-    seen: set[str] = set()
-    for version in versions:
-        if version.name in seen:
-            raise Fault(f"two versions have the name {version.name}: name them as NAME=FILE")
-        seen.add(version.name)
+def same_name(versions: Sequence[Given]) -> Optional[str]:
+    """A name that two versions have; None if there is none."""
+    counts = Counter(version.name for version in versions)
+    return next((name for name, count in counts.items() if count > 1), None)

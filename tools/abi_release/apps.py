@@ -52,17 +52,16 @@ class Ask(NamedTuple):
         """What identifies this task within a run."""
         return self.name
 
+    def do(self, settings: Settings, _passed_over: tuple[str, ...] = ()) -> Outcome:
+        """Does the task."""
+        store = Store(Path(settings.out))
+        return guarded(lambda: _asked(self, settings, store), settings, store, self.mark)
+
 
 def has_command(abi: Abi) -> bool:
     """Whether `abi` has the command `app`."""
     said = abi.run("--help")
     return _COMMAND.search(f"{said.text}\n{said.notes}") is not None
-
-
-def asked(ask: Ask, settings: Settings, _passed_over: tuple[str, ...] = ()) -> Outcome:
-    """Does the task."""
-    store = Store(Path(settings.out))
-    return guarded(lambda: _asked(ask, settings, store), settings, store, ask.mark)
 
 
 def _asked(ask: Ask, settings: Settings, store: Store) -> Outcome:

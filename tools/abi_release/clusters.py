@@ -8,7 +8,8 @@ import os
 import site
 import sys
 import tempfile
-from dataclasses import dataclass
+import threading
+from dataclasses import dataclass, field
 from functools import partial
 from pathlib import Path
 from typing import Any, Iterator, Optional
@@ -16,14 +17,16 @@ from typing import Any, Iterator, Optional
 import dask
 from distributed import Client, Nanny, Scheduler, Security, SpecCluster
 
+from abi_release.judging import DIED
 from abi_release.scratch import Scratch, sweep
 from abi_release.unpacked import let_go_of
 from abi_release.workers import LimitPlugin, Places, QuietWorker, memory_parent
-from abi_tools.faults import Fault
+from abi_tools.faults import Fault, said_of_signal
 
 _TOOLS = str(Path(__file__).resolve().parent.parent)
 _MEGABYTE = 1 << 20
 _LOOPBACK = "127.0.0.1"
+PROTOCOL = "tls://"
 # How many seconds a client may take to disconnect.
 _CLOSES_IN = 2
 # The scheduler gives each worker one task at a time, so that only one is suspected when the worker dies, and reports the death at once.
@@ -48,6 +51,10 @@ _LOCAL_SETTINGS = {
 }
 
 
+# How many seconds it may take until a nanny says how its worker ended, after the scheduler has lost it.
+_SAYS_IN = 5.0
+
+
 class NotStarted(Exception):
     """The local cluster did not start, as can happen on an overloaded machine."""
 
@@ -59,6 +66,53 @@ class _QuietScheduler(Scheduler):
         """Starts none."""
 
 
+class Deaths:
+    """How the workers of a local cluster ended, by address. The nannies, which start the workers, run in this process."""
+
+    def __init__(self) -> None:
+        self._reasons: dict[str, str] = {}
+        self._said = threading.Condition()
+
+    def take(self, address: str, reason: str) -> None:
+        """Takes how a worker ended."""
+        with self._said:
+            self._reasons[address] = reason
+            self._said.notify_all()
+
+    def reason(self, address: str) -> str:
+        """How a worker ended; empty if nobody says so in time."""
+        if not address:
+            return ""
+        with self._said:
+            self._said.wait_for(lambda: address in self._reasons, _SAYS_IN)
+            return self._reasons.get(address, "")
+
+
+class _TellingNanny(Nanny):
+    """A nanny that says how its worker ended."""
+
+    def __init__(self, *arguments: Any, deaths: Deaths, megabytes: int, **options: Any) -> None:
+        super().__init__(*arguments, **options)
+        self._deaths, self._megabytes = deaths, megabytes
+        self._ended = self._last_ended()
+
+    def _last_ended(self) -> int:
+        """The last worker's process that Dask ended because it took more memory than it may: by SIGTERM, and later by SIGKILL."""
+        return int(self.memory_manager._last_terminated_pid)  # pylint: disable=protected-access
+
+    def _on_worker_exit_sync(self, exitcode: int) -> None:
+        if self.worker_address is not None:
+            self._deaths.take(self.worker_address, self._how_it_ended(exitcode))
+        super()._on_worker_exit_sync(exitcode)
+
+    def _how_it_ended(self, exitcode: int) -> str:
+        """Why the worker ended, by the exit status of its process: negative if a signal ended it."""
+        before, self._ended = self._ended, self._last_ended()
+        if self._ended != before:
+            return f"{DIED}: it took more than its limit of {self._megabytes} MB"
+        return f"{DIED}: {said_of_signal(-exitcode) if exitcode < 0 else f'it ended with status {exitcode}'}"
+
+
 @dataclass(frozen=True)
 class LocalChoice:
     """A local cluster: how many workers it has, how many megabytes each may take, and whether it has Dask's dashboard. Its processes
@@ -67,6 +121,11 @@ class LocalChoice:
     workers: int
     megabytes: int
     has_dashboard: bool = False
+    deaths: Deaths = field(default_factory=Deaths)
+
+    def why_died(self, worker: str) -> str:
+        """Why the worker at an address died; empty if that is not known."""
+        return self.deaths.reason(worker)
 
     @contextlib.contextmanager
     def client(self) -> Iterator[Client]:
@@ -91,10 +150,11 @@ class LocalChoice:
             security = Security.temporary()
         except ImportError as error:
             raise Fault("there is no cryptography for Python: install the package python3-cryptography") from error
-        everywhere = {"host": _LOOPBACK, "protocol": "tls://", "security": security}
-        worker = {"cls": Nanny, "options": {
-            **everywhere, "worker_class": QuietWorker, "nthreads": 1, "dashboard": False, "local_directory": str(folder),
-            "memory_limit": 2 * self.megabytes * _MEGABYTE, "silence_logs": logging.CRITICAL}}
+        everywhere = {"host": _LOOPBACK, "protocol": PROTOCOL, "security": security}
+        worker = {"cls": _TellingNanny, "options": {
+            **everywhere, "deaths": self.deaths, "megabytes": 2 * self.megabytes, "worker_class": QuietWorker, "nthreads": 1,
+            "dashboard": False, "local_directory": str(folder), "memory_limit": 2 * self.megabytes * _MEGABYTE,
+            "silence_logs": logging.CRITICAL}}
         scheduler = {"cls": Scheduler if self.has_dashboard else _QuietScheduler, "options": {
             **everywhere, "port": 0, "dashboard": self.has_dashboard, "dashboard_address": f"{_LOOPBACK}:0"}}
         try:
@@ -142,6 +202,10 @@ class OtherChoice:
     keys: Optional[Keys]
     patience: float
     run: str
+
+    def why_died(self, _worker: str) -> str:
+        """Why the worker at an address died: only its machine knows."""
+        return ""
 
     @contextlib.contextmanager
     def client(self) -> Iterator[Client]:

@@ -12,20 +12,23 @@ from pathlib import Path
 from typing import Callable, Optional, Sequence, TextIO
 
 from abi_tools.abi_program import Abi
-from abi_tools.arguments import Arguments, share
+from abi_tools.arguments import Arguments, add_require_types
 from abi_tools.faults import Fault
+from abi_tools.shown import line_shown
 from abi_tools.verdicts import Verdict
-from abi_release.apps import Ask, has_command
+from abi_release.apps import has_command
 from abi_release.clusters import Choice, Keys, LocalChoice, OtherChoice, default_disk, default_megabytes, processors
 from abi_release.digests import OF_NOTHING, digest_of_file, program_digest
 from abi_release.judging import Part, Settings
-from abi_release.limited_program import Limits, check_time
+from abi_release.limited_program import CLOCK, Limits, check_time, limit_of
 from abi_release.pages import write_page
 from abi_release.progress import progress_of
+from abi_release.reports import Reports, json_program
 from abi_release.scheduling import Run, Task
 from abi_release.sources import Release, works
 from abi_release.stored_files import Json, Store
 from abi_release.tables import Table, moved, write_json, write_text
+from abi_release.texts import whole_output
 
 _DESCRIPTION = """\
 Says of each library of a release whether the one in the next release may replace it. OLD and NEW are folders of .deb or .rpm files,
@@ -41,13 +44,17 @@ Exit status:
   2   it cannot tell for one library, and says no to none; also if no library is on both sides, or if an input cannot be read
   64  the arguments are wrong
 """
+_LONGEST_PATIENCE = 10_000_000
 _OUTPUTS = ("table.txt", "release.json", "index.html")
-# How many seconds by the clock a second of processor time may take.
-_CLOCK = 10
 
 
 def main(arguments: Sequence[str]) -> int:
     """Judges releases as the arguments say, writes the tables, and returns the worst verdict."""
+    with whole_output():
+        return _main(arguments)
+
+
+def _main(arguments: Sequence[str]) -> int:
     parser = _parser()
     given = parser.parse_args(arguments)
     keys = _keys(parser, given)
@@ -59,12 +66,14 @@ def main(arguments: Sequence[str]) -> int:
     store = Store(given.out.resolve())
     lock = store.open()
     try:
-        limits = Limits(given.memory or default_megabytes(given.workers), given.seconds, given.clock or _CLOCK * given.seconds,
+        limits = Limits(given.memory or default_megabytes(given.workers), given.seconds, given.clock or CLOCK * given.seconds,
                         given.disk or default_disk())
         settings = Settings(os.urandom(16).hex(), str(given.old.resolve()), str(given.new.resolve()), str(store.folder),
                             None if given.rules is None else str(given.rules.resolve()), program_digest(abi.path),
-                            given.require_types, limits)
+                            given.require_types, limits, reports=None if given.reports is None else Reports.into(given.reports))
         os.environ["ABI"] = abi.path
+        if settings.reports is not None:
+            os.environ["ABI_JSON"] = json_program()
         choice: Choice = (LocalChoice(given.workers, limits.megabytes, given.dashboard) if given.scheduler is None
                           else OtherChoice(given.scheduler, keys, given.patience, settings.run))
         run = Run(settings, store, choice, given.tries, given.patience)
@@ -78,14 +87,16 @@ def main(arguments: Sequence[str]) -> int:
 
 def _parser() -> Arguments:
     parser = Arguments("abi-release", _DESCRIPTION, _STATUSES)
-    parser.add_argument("old", type=Path, metavar="OLD")
-    parser.add_argument("new", type=Path, metavar="NEW")
+    parser.add_argument("old", type=Path, metavar="OLD", help="the folder with the packages of the old release")
+    parser.add_argument("new", type=Path, metavar="NEW", help="the folder with the packages of the new release")
     parser.add_argument("--out", type=Path, required=True, metavar="FOLDER", help="where to keep results and tables")
     parser.add_argument("--rules", type=Path, metavar="FILE",
                         help="a rule file of abi (default: usr/share/doc/PACKAGE/abi.rules of the new package, or else of the old one)")
-    parser.add_argument("--require-types", type=share, default=0.0, metavar="SHARE",
-                        help="the percentage of compared exports that must have types in both libraries (default: at least one export)")
-    parser.add_argument("--workers", type=_count, default=processors(), metavar="N",
+    parser.add_argument("--reports", type=Path, metavar="DIR",
+                        help="make a page of abi-report on each library that may not be replaced, and keep it in DIR; this needs abi-json: "
+                             "the one that the variable ABI_JSON names, or else the one on the PATH")
+    add_require_types(parser)
+    parser.add_argument("--workers", type=limit_of, default=processors(), metavar="N",
                         help="how many workers to start on this machine (default: one for each processor)")
     parser.add_argument("--dashboard", action="store_true",
                         help="have Dask's dashboard on this machine: all its users can read it (default: no HTTP server)")
@@ -96,19 +107,19 @@ def _parser() -> Arguments:
     parser.add_argument("--tls-key", metavar="FILE", help="the key of that certificate, in PEM")
     parser.add_argument("--insecure", action="store_true",
                         help="use a cluster without TLS: everyone who reaches it can run programs as its user")
-    parser.add_argument("--memory", type=_count, metavar="MB",
+    parser.add_argument("--memory", type=limit_of, metavar="MB",
                         help="the memory limit of a worker, and also of each run of abi (default: a worker's share of half of the memory)")
-    parser.add_argument("--seconds", type=_count, default=600, metavar="S",
+    parser.add_argument("--seconds", type=limit_of, default=600, metavar="S",
                         help="the processor time limit of each run of abi, and of a worker for each library (default: 600)")
-    parser.add_argument("--clock", type=_count, metavar="S",
+    parser.add_argument("--clock", type=limit_of, metavar="S",
                         help="the limit of each run of abi by the clock; a worker has twice as long for a library (default: ten times "
                              "--seconds)")
-    parser.add_argument("--disk", type=_count, metavar="MB",
+    parser.add_argument("--disk", type=limit_of, metavar="MB",
                         help="how much of the disk of each machine unpacked packages may take (default: half of what is free, at most "
                              "16 GB)")
-    parser.add_argument("--tries", type=_count, default=2, metavar="N",
+    parser.add_argument("--tries", type=limit_of, default=2, metavar="N",
                         help="how often to try what fails (default: 2); the next run tries it again")
-    parser.add_argument("--patience", type=float, default=300.0, metavar="S",
+    parser.add_argument("--patience", type=_seconds, default=300.0, metavar="S",
                         help="how long to wait for a scheduler or a worker (default: 300)")
     return parser
 
@@ -133,12 +144,12 @@ def _keys(parser: Arguments, given: argparse.Namespace) -> Optional[Keys]:
     return Keys(*files)
 
 
-def _count(text: str) -> int:
-    """A number above 0. Raises an argument error for any other."""
-    value = int(text)
-    if value < 1:
-        raise argparse.ArgumentTypeError(f"{text} is not above 0")
-    return value
+def _seconds(text: str) -> float:
+    """Seconds to wait. Raises an argument error for what is none."""
+    with contextlib.suppress(ValueError):
+        if 0 <= float(text) <= _LONGEST_PATIENCE:
+            return float(text)
+    raise argparse.ArgumentTypeError(f"{text} is no number of seconds from 0 to {_LONGEST_PATIENCE}")
 
 
 def _head(given: argparse.Namespace, settings: Settings) -> Json:
@@ -166,12 +177,15 @@ def _judge(run: Run, abi: Abi, releases: Sequence[Release], head: Json) -> Verdi
     _do(run, [Part(work) for work in sorted(packages, key=lambda work: work.group)], "packages")
     moves = moved(packages, run)
     _do(run, [Part(work) for work in moves], "packages")
-    table = Table(packages, moves, run)
+    table = Table(packages, moves, run, run.settings.reports)
     asks = table.asks() if has_command(abi) else []
     if asks:
         _do(run, asks, "packages asked")
-        _say_what_was_not_asked(run, asks)
-        table = Table(packages, moves, run)
+        _say_what_failed(run, asks, "packages that need a broken library could not be asked")
+        table = Table(packages, moves, run, run.settings.reports)
+    explains = table.explains()
+    _do(run, explains, "pages")
+    _say_what_failed(run, explains, "pages of abi-report could not be made")
     print(f"abi-release: {len(packages)} packages in {time.monotonic() - start:.1f} seconds: {run.counts['judged']} pairs of libraries "
           f"judged, {run.counts['kept']} kept; this process took {_peak_megabytes():.0f} MB", file=sys.stderr)
     _write(table, head, run.store)
@@ -179,12 +193,12 @@ def _judge(run: Run, abi: Abi, releases: Sequence[Release], head: Json) -> Verdi
     return table.verdict()
 
 
-def _say_what_was_not_asked(run: Run, asks: Sequence[Ask]) -> None:
-    """Prints how many packages could not be asked, and why the first one could not."""
-    failed = [ask.name for ask in asks if ask.name in run.failures]
+def _say_what_failed(run: Run, tasks: Sequence[Task], what: str) -> None:
+    """Prints how many tasks failed, and why the first one did."""
+    failed = [task.name for task in tasks if task.name in run.failures]
     if failed:
-        print(f"abi-release: {len(failed)} of {len(asks)} packages that need a broken library could not be asked; {failed[0]}: "
-              f"{run.failures[failed[0]].reason}", file=sys.stderr)
+        first = f"{failed[0]}: {run.failures[failed[0]].reason}"
+        print(line_shown(f"abi-release: {len(failed)} of {len(tasks)} {what}; {first}"), file=sys.stderr)
 
 
 def _peak_megabytes() -> float:

@@ -88,18 +88,18 @@ def program_digest(path: str) -> str:
     return _digest_at(path, changed.st_mtime_ns, changed.st_size)
 
 
-@lru_cache(maxsize=1)
+@lru_cache(maxsize=2)
 def _digest_at(path: str, _time: int, _size: int) -> str:
     return digest_of_file(Path(path))
 
 
-def _digest_of_tools() -> str:
-    """The SHA-256 of the modules of the tools. A result that other modules made is made again."""
+def digest_of_tools(packages: Sequence[str] = _TOOLS, patterns: Sequence[str] = ("*.py",)) -> str:
+    """The SHA-256 of the modules of some packages of the tools. A result that other modules made is made again."""
     folder = Path(__file__).resolve().parent.parent
     named = sorted((f"{package}/{module.name}", digest_of_file(module))
-                   for package in _TOOLS for module in (folder / package).glob("*.py"))
+                   for package in packages for pattern in patterns for module in (folder / package).glob(pattern))
     return digest_of_json(named)
 
 
 # Read when the modules are imported: a worker that runs on while the files change still has the old code.
-TOOLS = _digest_of_tools()
+TOOLS = digest_of_tools()

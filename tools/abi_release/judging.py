@@ -24,6 +24,7 @@ from abi_release import workers
 from abi_release.digests import OF_NOTHING, TOOLS, digest_of_file, digest_of_files, digest_of_json, program_digest, state_of
 from abi_release.limited_program import FAULT, LimitedAbi, Limits
 from abi_release.needs import imports, version_and_depends
+from abi_release.reports import Reports
 from abi_release.sources import Work
 from abi_release.stored_files import Json, Store, opened_name, record_name, result_name
 from abi_release.unpacked import ToUnpack, Trouble, Unpacked, let_go, unpacked
@@ -48,7 +49,8 @@ OF_RUN = "run"
 @dataclass(frozen=True)
 class Settings:
     """What is the same for all packages of a run: a mark that no other run has, both folders and that of results, the rule file, the
-    digest of the program, the share of exports that must have types, and the limits of each process."""
+    digest of the program, the share of exports that must have types, the limits of each process, the digest of the tools, and where the
+    pages of `abi-report` go, if they are wanted."""
 
     run: str
     old: str
@@ -59,6 +61,7 @@ class Settings:
     least_share: float
     limits: Limits
     tools: str = TOOLS
+    reports: Optional[Reports] = None
 
     def places(self, work: Work) -> tuple[tuple[Path, ...], tuple[Path, ...]]:
         """The files of both sides."""
@@ -91,6 +94,15 @@ class Part(NamedTuple):
         """What identifies this task within a run."""
         return f"{self.work.name}\0{self.library}"
 
+    def do(self, settings: Settings, passed_over: tuple[str, ...] = ()) -> "Outcome":
+        """Does the task. It skips the libraries `passed_over`, which made a worker die. Whatever a package holds, there is an outcome."""
+        task = _Task(self, settings, passed_over, Store(Path(settings.out)))
+        outcome = guarded(task.outcome, settings, task.store, self.mark)
+        if outcome.reason or outcome.troubles:
+            # Whoever tries again unpacks again.
+            let_go()
+        return outcome
+
 
 class Outcome(NamedTuple):
     """The outcome of a task: how many pairs of libraries were judged, and how many were kept from earlier; the `troubles` of libraries,
@@ -106,30 +118,21 @@ class Outcome(NamedTuple):
     line: Optional[Json] = None
 
 
-def done(part: Part, settings: Settings, passed_over: tuple[str, ...] = ()) -> Outcome:
-    """Does a task. It skips the libraries `passed_over`, which made a worker die. Whatever a package holds, there is an outcome."""
-    task = _Task(part, settings, passed_over, Store(Path(settings.out)))
-    outcome = guarded(task.outcome, settings, task.store, part.mark)
-    if outcome.reason or outcome.troubles:
-        # Whoever tries again unpacks again.
-        let_go()
-    return outcome
-
-
 def guarded(task: Callable[[], Outcome], settings: Settings, store: Store, mark: str) -> Outcome:
     """The outcome of a task, even if it raises an exception."""
-    try:
-        store.begin(mark, "")
-        if settings.tools != TOOLS:
-            raise Fault("the tools on this worker are others than those of the run")
-        allow_more_time(settings, store, mark)
-        _check_program(settings)
-        return task()
-    except Exception as error:  # pylint: disable=broad-except
-        return Outcome(reason=settings.plain(reason_of(error)))
-    finally:
-        workers.CLOCK.stop()
-        store.end(mark)
+    with workers.at_work(settings.run):
+        try:
+            store.begin(mark, "")
+            if settings.tools != TOOLS:
+                raise Fault("the tools on this worker are others than those of the run")
+            allow_more_time(settings, store, mark)
+            _check_program(settings)
+            return task()
+        except Exception as error:  # pylint: disable=broad-except
+            return Outcome(reason=settings.plain(reason_of(error)))
+        finally:
+            workers.CLOCK.stop()
+            store.end(mark)
 
 
 def allow_more_time(settings: Settings, store: Store, mark: str) -> None:
@@ -248,7 +251,8 @@ class _Task:
             version, needed = version_and_depends(places[0], packages.controls.get(places[0])) if places else (None, [])
             versions.append(version)
             depends.append(needed)
-        record = {"identity": identity, "versions": versions, "depends": depends[0], "imports": imports(packages.files()), "lines": lines}
+        record = {"identity": identity, "versions": versions, "depends": depends[0], "imports": imports(packages.files()), "lines": lines,
+                  **_not_given(packages)}
         packages.check()
         self.store.put_json(name, record)
 
@@ -335,6 +339,13 @@ def _one_sided(pair: Pair) -> Json:
     if pair.trouble:
         return {**line, "answer": Verdict.CANNOT_TELL.words(), "reasons": [pair.trouble]}
     return {**line, "answer": GONE if pair.new is None else NEW}
+
+
+def _not_given(packages: Unpacked) -> Json:
+    """What the new package may bring, and could not give: the sonames of libraries that `abi` cannot read or that nothing pairs, and the
+    names of files that may be libraries."""
+    unsure = {pair.soname for pair in packages.pairs.values() if pair.old is None and pair.new is not None and pair.trouble}
+    return {"unsure": sorted(unsure), "unread": sorted({one.name for one in packages.sides[1].unreadable})}
 
 
 def _file(judgement: Judgement) -> tuple[str, bytes]:

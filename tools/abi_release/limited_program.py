@@ -2,6 +2,7 @@
 
 from __future__ import annotations
 
+import argparse
 import os
 import resource
 import select
@@ -27,6 +28,10 @@ _LONGEST_TEXT = 1 << 29
 FAULT = 2
 _TOLD = (0, 1, FAULT)
 _NO_MEMORY = 4
+# How many seconds by the clock a second of processor time may take, unless the caller says otherwise.
+CLOCK = 10
+# The largest number that a limit on the command line may have: the system counts bytes and microseconds in 64 bits.
+_LARGEST = 10 ** 9
 # The most seconds that poll(2) waits.
 _LONGEST_WAIT = 2_000_000
 
@@ -40,6 +45,14 @@ class Limits:
     seconds: int
     clock: int
     disk: int
+
+
+def limit_of(text: str) -> int:
+    """A limit on the command line. Raises an argument error if it is no number from 1 to a thousand million."""
+    value = int(text) if text.isascii() and text.isdigit() else 0
+    if not 1 <= value <= _LARGEST:
+        raise argparse.ArgumentTypeError(f"{text} is no number from 1 to {_LARGEST}")
+    return value
 
 
 def check_time() -> None:
@@ -73,6 +86,7 @@ class LimitedAbi(Abi):
 
     def __init__(self, folder: Path, limits: Limits) -> None:
         super().__init__(folder)
+        self.command = [self.path]
         self._limits = limits
         self._known: dict[tuple[str, ...], Answer] = {}
         self.seconds = 0.0
@@ -104,7 +118,7 @@ class LimitedAbi(Abi):
         script = _LIMITS.format(kilobytes=_at_most(resource.RLIMIT_AS, limits.megabytes * _MEGABYTE) // 1024,
                                 seconds=_at_most(resource.RLIMIT_CPU, limits.seconds),
                                 blocks=_at_most(resource.RLIMIT_FSIZE, _LONGEST_TEXT) // _BLOCK)
-        script += _NEXT.join(_RUN.format(command=shlex.join([self.path, *run]), mark=mark) for run in runs) + _END
+        script += _NEXT.join(_RUN.format(command=shlex.join([*self.command, *run]), mark=mark) for run in runs) + _END
         out, errors, took = files = _files(self.folder)
         # GNU time opens its output file by name.
         command = [_TIME, "--quiet", "--format=%U %S %M", f"--output=/proc/self/fd/{took.fileno()}", "/bin/sh", "-c", script]

@@ -15,10 +15,11 @@ from typing import Iterator, NamedTuple, Optional, Sequence
 
 from distributed import Client, Future, KilledWorker, as_completed
 
-from abi_release.apps import Ask, asked
+from abi_release.apps import Ask
 from abi_release.clusters import Choice, LocalChoice, NotStarted
 from abi_release.digests import digest_of_json
-from abi_release.judging import DIED, Outcome, Part, Settings, done, open_line
+from abi_release.explaining import Explain
+from abi_release.judging import DIED, Outcome, Part, Settings, open_line
 from abi_release.openings import Openings
 from abi_release.progress import Progress
 from abi_release.stored_files import Json, Store, record_name
@@ -39,7 +40,7 @@ _LOOKS_EVERY = 1.0
 _MOST_WAITS = 20
 
 
-Task = Part | Ask
+Task = Part | Ask | Explain
 
 
 class Given(NamedTuple):
@@ -56,7 +57,7 @@ def done_in_turn(batch: Sequence[Given], settings: Settings) -> list[Outcome]:
     for task, passed_over in batch:
         if outcomes and time.monotonic() > end:
             break
-        outcomes.append(done(task, settings, passed_over) if isinstance(task, Part) else asked(task, settings, passed_over))
+        outcomes.append(task.do(settings, passed_over))
     return outcomes
 
 
@@ -98,7 +99,7 @@ class Run:
         self._openings = Openings(self.store)
 
     def over(self, tasks: Sequence[Task], progress: Progress) -> None:
-        """Does all tasks: those that open packages, and those that ask `abi app`. Tasks that cannot be done become failures."""
+        """Does all tasks: those that open packages, that ask `abi app`, or that make pages. Tasks that cannot be done become failures."""
         left: deque[Task] = deque()
         source = self._source = iter(tasks)
         for _ in range(_MOST_CLUSTERS):
@@ -165,9 +166,9 @@ class Run:
             self.failures[part.name] = Failure(error.strerror or str(error), 1)
             return Next(is_done=True)
 
-    def died(self, part: Task) -> "Next":
-        """Takes the death of the worker that had a task, and returns what to do next. The task is tried again, up to `tries` times for
-        each library, and then without that library. A task that had not begun was only waiting at the worker."""
+    def died(self, part: Task, worker: str = "") -> "Next":
+        """Takes the death of the worker, at this address, that had a task, and returns what to do next. The task is tried again, up to
+        `tries` times for each library, and then without that library. A task that had not begun was only waiting at the worker."""
         begun = self.store.begun(part.mark)
         if begun is None:
             self._waits[part.mark] += 1
@@ -176,10 +177,10 @@ class Run:
         library = part.library or begun or ""
         deaths = self._deaths.setdefault(part.name, Counter())
         deaths[library] += 1
-        reason = self.store.why(part.mark) or DIED
+        reason = self.store.why(part.mark)
         if deaths[library] < self.tries:
             return Next(again=[part])
-        failure = Failure(reason, deaths[library])
+        failure = Failure(reason or self.choice.why_died(worker) or DIED, deaths[library])
         if library and isinstance(part, Part):
             self.troubles.setdefault(part.name, {})[library] = failure
             return self._take_line(part, None, failure) if part.library else Next(again=[part])
@@ -298,7 +299,8 @@ class _Turn:
                 # If the worker that holds the result dies, Dask does the batch again, and that may fail.
                 error = ended
         if isinstance(error, KilledWorker):
-            return [self._run.died(task) for task in batch]
+            worker = str(getattr(error.last_worker, "address", ""))
+            return [self._run.died(task, worker) for task in batch]
         if isinstance(error, CancelledError):
             raise _Lost("the scheduler is gone") from error
         return [self._run.came_of(task, Outcome(reason=f"{type(error).__name__}: {error}")) for task in batch]

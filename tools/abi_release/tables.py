@@ -10,8 +10,10 @@ from dataclasses import dataclass, field
 from typing import Iterator, Optional, Protocol, Sequence, TextIO
 
 from abi_release.apps import Ask
+from abi_release.explaining import Explain
 from abi_release.hits import Hits
 from abi_release.judging import GONE, NEW, OF_RUN, OPEN
+from abi_release.reports import Reports
 from abi_release.scheduling import Failure
 from abi_release.sources import MOVED, Work
 from abi_release.stored_files import Json, Store
@@ -22,10 +24,10 @@ from abi_tools.verdicts import Verdict
 # The member of a line with measurements, which differ from run to run, and those with names of files, which the program and the tools
 # change. The digest of the table is over all others: what is told.
 MEASURED = "measured"
-_UNTOLD = (MEASURED, "result", "certificate", "report")
+_UNTOLD = (MEASURED, "result", "certificate", "report", "page")
 # The members of a line of a record from which follows who is hit.
 _OF_HITS = ("broken", "soname")
-# How many new packages that could not be read a line names.
+# How many new packages, or files in them, that could not be read a line names.
 _MOST_UNREAD = 3
 
 
@@ -61,18 +63,21 @@ class Ran(Protocol):
 @dataclass
 class Table:
     """The lines of a run, sorted by package and by library. It holds no lines: it reads them again for each use, and counts them at
-    the start. The sentences of lines are made here, from what is known by digests."""
+    the start. The sentences of lines are made here, from what is known by digests. `reports` says where the pages of `abi-report` are."""
 
     works: Sequence[Work]
     moves: Sequence[Work]
     run: Ran
+    reports: Optional[Reports] = None
     counts: Counter[str] = field(default_factory=Counter)
 
     def __post_init__(self) -> None:
         self.hits = Hits(self.run.store)
         self._moved = {(side, library) for work in self.moves for side in work.name.split(MOVED) for library in work.only}
-        self._unread = [work.new[0] for work in self.works if work.new and self.run.record(work.name) is None]
-        self._given = Counter(line["library"] for record in self._all_records() for line in record["lines"] if line["answer"] == NEW)
+        self._unread: list[str] = []
+        self._given: set[str] = set()
+        for work in self.works:
+            self._take_new(work)
         for record, counted in self._records():
             lines = list(counted)
             self.counts.update(line["answer"] for line in lines)
@@ -81,11 +86,15 @@ class Table:
             if MOVED not in record["name"] and record["depends"] is not None:
                 self.hits.take_needs(record)
 
-    def _all_records(self) -> Iterator[Json]:
-        for work in self.works:
-            record = self.run.record(work.name)
-            if record is not None:
-                yield record
+    def _take_new(self, work: Work) -> None:
+        """Takes what a new package brings, and what of it could not be read: the package, or files that may be libraries."""
+        record = self.run.record(work.name)
+        package = os.path.basename(work.new[0]) if work.new else ""
+        if record is None:
+            self._unread += [package] if package else []
+            return
+        self._unread += [f"{name} in {package}" for name in record["unread"]]
+        self._given |= {line["soname"] for line in record["lines"] if line["answer"] == NEW} | set(record["unsure"])
 
     def _records(self) -> Iterator[tuple[Json, Iterator[Json]]]:
         """The record of each pair of packages, and its lines that count."""
@@ -110,14 +119,14 @@ class Table:
                 yield self._gone(line) if line["answer"] == GONE else line
 
     def _gone(self, line: Json) -> Json:
-        """The line of a library that the new package of the same name does not have. It is gone only if all new packages could be read
-        and none of them has got it; else nobody can tell."""
+        """The line of a library that the new package of the same name does not have. It is gone only if all new packages, and all files in
+        them that may be libraries, could be read, and none of them has got it; else nobody can tell."""
+        if line["soname"] in self._given:
+            return _cannot_tell(line, "its package has lost it, and nothing says which library of other new packages replaces it")
         if self._unread:
             more = f" and {len(self._unread) - _MOST_UNREAD} more" if len(self._unread) > _MOST_UNREAD else ""
-            names = ", ".join(os.path.basename(place) for place in self._unread[:_MOST_UNREAD])
+            names = ", ".join(self._unread[:_MOST_UNREAD])
             return _cannot_tell(line, f"its package has lost it, and of the new packages these could not be read: {names}{more}")
-        if self._given[line["library"]]:
-            return _cannot_tell(line, "several packages have lost or got it, so it is not known which one replaces it")
         return line
 
     def lines(self) -> Iterator[Json]:
@@ -129,7 +138,25 @@ class Table:
                 whole = {"package": name, "versions": {"old": old, "new": new},
                          **{key: value for key, value in line.items() if key not in _OF_HITS}}
                 hit = self.hits.of(name.partition(MOVED)[0], line["library"]) if line["library"] else []
-                yield {**whole, "hit": hit} if hit else whole
+                yield {**whole, **self._page(line), **({"hit": hit} if hit else {})}
+
+    def _page(self, line: Json) -> Json:
+        """The page of `abi-report` on a no, if it was made: its place from the folder of the run."""
+        if self.reports is None or line["answer"] != Verdict.NO.words():
+            return {}
+        page = self.reports.page(line["result"])
+        return {"page": os.path.relpath(page, self.run.store.folder)} if page.is_file() else {}
+
+    def explains(self) -> list[Explain]:
+        """The tasks that make the missing pages: one for each result with a no."""
+        works = {work.name: work for work in (*self.works, *self.moves)}
+        found: dict[str, Explain] = {}
+        for record, lines in self._records():
+            for line in lines:
+                if self.reports is not None and line["answer"] == Verdict.NO.words() and not self._page(line):
+                    task = Explain(works[record["name"]], line["library"], line["result"], tuple(record["identity"]))
+                    found.setdefault(task.result, task)
+        return list(found.values())
 
     def asks(self) -> list[Ask]:
         """The tasks that ask `abi app` which packages are hit."""
@@ -190,7 +217,7 @@ def text_of(line: Json) -> str:
             line["types"].items(), reverse=True)))
     if MEASURED in line:
         parts.append(f"{line[MEASURED]['seconds']:.2f} s, {line[MEASURED]['megabytes']:.1f} MB")
-    parts += [f"{kind} {line[kind]}" for kind in ("certificate", "report") if kind in line]
+    parts += [f"{kind} {line[kind]}" for kind in ("certificate", "report", "page") if kind in line]
     hit, spared = parted_hits(line)
     for word, found in (("hits", hit), ("spares", spared)):
         if found:

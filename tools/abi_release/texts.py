@@ -2,7 +2,11 @@
 
 from __future__ import annotations
 
+import contextlib
+import os
+import sys
 import unicodedata
+from typing import Iterator
 
 # Control characters, and those that change how others are shown: the directions of text, joiners, private and unpaired ones, and the
 # separators of lines.
@@ -24,3 +28,18 @@ def _shown(character: str) -> str:
     if character == _BACKSLASH or unicodedata.category(character) in _HIDDEN:
         return f"\\x{code:02x}" if code < 0x100 else f"\\u{code:04x}" if code < 0x10000 else f"\\U{code:08x}"
     return character
+
+
+@contextlib.contextmanager
+def whole_output() -> Iterator[None]:
+    """A context at whose end all is written that was printed. Raises OSError if it cannot be: Python would write it at the end of the
+    program, and end that with a status of its own if this fails."""
+    try:
+        yield
+    finally:
+        try:
+            sys.stdout.flush()
+        except OSError:
+            with open(os.devnull, "wb") as nowhere:
+                os.dup2(nowhere.fileno(), sys.stdout.fileno())
+            raise

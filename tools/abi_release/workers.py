@@ -3,14 +3,16 @@
 from __future__ import annotations
 
 import atexit
+import contextlib
 import os
 import resource
 import signal
 import tempfile
 import threading
 import time
+from collections import Counter
 from pathlib import Path
-from typing import Any, Callable, NamedTuple, Optional
+from typing import Any, Callable, Iterator, NamedTuple, Optional
 
 from distributed import Worker, WorkerPlugin
 
@@ -19,6 +21,8 @@ from abi_release.scratch import IN_MEMORY, Scratch, make_private, sweep
 _MEGABYTE = 1 << 20
 _PAGE = resource.getpagesize()
 _LOOKS_EVERY = 0.5
+# After so many seconds without a task, a worker that several runs share leaves the folder of a run. If the run goes on, it is made again.
+_IDLE = 60.0
 
 
 class QuietWorker(Worker):
@@ -36,12 +40,14 @@ class Places(NamedTuple):
 
 
 class _Own:
-    """Whether the worker belongs to this run alone, so that the run may limit its process; its places, if the run made them; and those
-    that this process made for other runs, by run."""
+    """Whether the worker belongs to this run alone, so that the run may limit its process; its places, if the run made them; those that
+    this process made for other runs, by run; how many tasks it does for each run right now; and when it last ended one."""
 
     is_limited = False
     places: Optional[Places] = None
     made: dict[str, Scratch] = {}
+    tasks: Counter[str] = Counter()
+    ended: dict[str, float] = {}
     lock = threading.Lock()
 
 
@@ -77,7 +83,28 @@ def places(run: str) -> Places:
             _Own.made[run] = Scratch.of_run(run, Path(tempfile.gettempdir()))
             if len(_Own.made) == 1:
                 atexit.register(leave_all)
+        for other in _idle_runs(run):
+            _Own.made.pop(other).leave()
         return Places(_Own.made[run].folder, None)
+
+
+def _idle_runs(but: str) -> list[str]:
+    """The runs for which this process has done nothing for some time: they may have been killed."""
+    now = time.monotonic()
+    return [run for run in _Own.made if run != but and not _Own.tasks[run] and now - _Own.ended.get(run, now) > _IDLE]
+
+
+@contextlib.contextmanager
+def at_work(run: str) -> Iterator[None]:
+    """A context in which this process does a task for a run."""
+    with _Own.lock:
+        _Own.tasks[run] += 1
+    try:
+        yield
+    finally:
+        with _Own.lock:
+            _Own.tasks[run] -= 1
+            _Own.ended[run] = time.monotonic()
 
 
 def leave(run: str) -> None:

@@ -5,10 +5,9 @@ from __future__ import annotations
 from pathlib import Path
 from typing import Sequence
 
-from abi_tools.arguments import Arguments, share
+from abi_tools.arguments import Arguments, add_require_types
 from abi_tools.faults import Fault
 from abi_tools.output_file import clear_output
-from abi_tools.verdicts import Verdict
 
 from abi_report.runs import AbiJson, Digests
 
@@ -19,10 +18,11 @@ one on the PATH. Some answers also need `abi` (the variable ABI, or the PATH).
 """
 _STATUSES = """\
 Exit status:
-  0  yes: the new library may replace the old one
-  1  no: the report says what changed
-  2  it cannot tell, and the first line says why: an input is refused or missing, or the answer would not rest on types, as for
-     abi-gate; also if the arguments are wrong
+  0   yes: the new library may replace the old one
+  1   no: the report says what changed
+  2   it cannot tell, and the first line says why: an input is refused or missing, or the answer would not rest on types, as for
+      abi-gate
+  64  the arguments are wrong
 """
 _FORMATS = ("text", "json", "html")
 
@@ -42,18 +42,23 @@ def main(arguments: Sequence[str]) -> int:
         digests = None if given.quiet or given.format == "text" else Digests(inputs)
         # The program judges while Python imports the rest of this tool and begins to read the libraries.
         from abi_report.reporting import Wanted, reported
+        from abi_report.rule_sections import Headers
 
-        wanted = Wanted(given.old, given.new, given.headers, given.require_types, given.certificate, given.format, given.quiet,
+        headers = Headers.of(given.headers, given.dev)
+        wanted = Wanted(given.old, given.new, headers, given.require_types, given.certificate, given.format, given.quiet,
                         given.all, not (given.fast or given.quiet or given.rules))
         return int(reported(running, digests, wanted))
 
 
 def _parser() -> Arguments:
-    parser = Arguments("abi-report", _DESCRIPTION, _STATUSES, wrong=Verdict.CANNOT_TELL)
+    parser = Arguments("abi-report", _DESCRIPTION, _STATUSES)
     parser.add_argument("--rules", type=Path, metavar="FILE", help="a rule file of abi, which says what is not compared")
     parser.add_argument("--headers", type=Path, metavar="FOLDER",
                         help="the public headers (.h, .hh, .hpp, .hxx, .inc; other files do not count): callers do not see types that none "
-                             "of them declares, and these get a rule section")
+                             "of them declares, and these get a rule section by name")
+    parser.add_argument("--dev", type=Path, action="append", default=[], metavar="PACKAGE",
+                        help="a development package (.deb or .rpm) whose headers are public; may be given several times. It is read as "
+                             "data, and nothing of it is placed on the disk")
     parser.add_argument("--format", choices=_FORMATS, default="text", metavar="FORMAT",
                         help="text (the default), json (the document of abi-json, with the blocks of the report), or html (one page that "
                              "needs no other file)")
@@ -62,9 +67,8 @@ def _parser() -> Arguments:
     parser.add_argument("--all", action="store_true",
                         help="text: have a line for each member, also for those that one change moved together (the page has them behind a click)")
     parser.add_argument("--quiet", action="store_true", help="print only the answer, in one line")
-    parser.add_argument("--require-types", type=share, default=0.0, metavar="SHARE",
-                        help="the percentage of compared exports that must have types in both libraries (default: at least one export)")
+    add_require_types(parser)
     parser.add_argument("--certificate", type=Path, metavar="FILE", help="keep the certificate of a yes in this file")
-    parser.add_argument("old", type=Path, metavar="OLD")
-    parser.add_argument("new", type=Path, metavar="NEW")
+    parser.add_argument("old", type=Path, metavar="OLD", help="the library that programs were built against")
+    parser.add_argument("new", type=Path, metavar="NEW", help="the build that is to replace it")
     return parser

@@ -8,7 +8,7 @@ from typing import Callable, Optional, TypeVar
 
 from abi_tools.abi_program import NO, YES, Abi, Answer
 from abi_tools.faults import Fault
-from abi_tools.gates import Library, judge_answer
+from abi_tools.gates import Library, judge_answer, share_words
 from abi_tools.verdicts import Verdict
 
 from abi_report.documents import Break, Document
@@ -24,13 +24,14 @@ _CERTAIN = ("X1", "X2", "X3", "X4", "X5")
 
 @dataclass(frozen=True)
 class Judged:
-    """A verdict, the reasons if the tool cannot tell, and for a yes how many exports were compared and how many of them have types in
-    both libraries."""
+    """A verdict, the reasons if the tool cannot tell, and for a yes how many exports were compared, how many of them have types in both
+    libraries, and the share of these in words if some lack them."""
 
     verdict: Verdict
     reasons: tuple[str, ...] = ()
     compared: Optional[int] = None
     typed: Optional[int] = None
+    share: str = ""
 
 
 def judge_document(document: Document, old: Path, new: Path, least_share: float) -> Judged:
@@ -48,8 +49,10 @@ def judge_document(document: Document, old: Path, new: Path, least_share: float)
     except Fault as fault:
         return Judged(Verdict.CANNOT_TELL, (str(fault),))
     judgement = judge_answer(answer, first, second, least_share)
-    is_yes = document.status == YES
-    return Judged(judgement.verdict, judgement.reasons, judgement.compared if is_yes else None, judgement.typed if is_yes else None)
+    if document.status != YES:
+        return Judged(judgement.verdict, judgement.reasons)
+    share = share_words(judgement.compared, judgement.counting, judgement.typed)
+    return Judged(judgement.verdict, judgement.reasons, judgement.compared, judgement.typed, share)
 
 
 def _unread(path: Path) -> str:
@@ -63,8 +66,9 @@ def _unread(path: Path) -> str:
 
 
 def _is_certain(one: Break) -> bool:
-    """Whether a break cannot come from missing types: it is about the export itself, or has steps, which only types provide."""
-    return one.rule in _CERTAIN or (one.rule.startswith("L") and bool(one.steps))
+    """Whether a break cannot come from missing types: it is about the export itself, or has steps, which only types provide. The result
+    of a function without types is void, so that a step to it alone provides none."""
+    return one.rule in _CERTAIN or (one.rule.startswith("L") and one.steps not in ((), ("result",)))
 
 
 def _text(document: Document) -> str:

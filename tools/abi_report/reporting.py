@@ -25,13 +25,13 @@ _OPENED = 2
 
 @dataclass(frozen=True)
 class Wanted:
-    """What the arguments ask for: both libraries, the folder of the public headers, the least share of exports with types, the file for
+    """What the arguments ask for: both libraries, the public headers, the least share of exports with types, the file for
     the certificate, the form, whether to print the answer alone, whether the text has a line for each member that another change only moved, and
     whether exports are searched for that the document does not name."""
 
     old: Path
     new: Path
-    headers: Optional[Path]
+    headers: Headers
     require_types: float
     certificate: Optional[Path]
     form: str
@@ -51,7 +51,7 @@ def reported(running: Running, digests: Optional[Digests], wanted: Wanted) -> Ve
     if digests is not None:
         _put_digests(document, digests)
     judged = judge_document(document, wanted.old, wanted.new, wanted.require_types)
-    report = Report(document, judged, libraries, Headers(wanted.headers), wanted.searches)
+    report = Report(document, judged, libraries, wanted.headers, wanted.searches)
     if wanted.certificate is not None and judged.verdict == Verdict.YES:
         write_whole(wanted.certificate, document.text.encode())
     write(report)

@@ -186,7 +186,8 @@ class Report:
         """How many exports were compared, and how many have types, in words."""
         words = []
         if self.judged.compared is not None:
-            words.append(f"{counted(self.judged.compared, 'export')} compared, {self.judged.typed:,} with types in both libraries")
+            words.append(f"{counted(self.judged.compared, 'export')} compared, {self.judged.typed:,} with types in both libraries"
+                         f"{self.judged.share}")
         for side in (self.old, self.new):
             found = self.document.counted(side.side)
             if found is not None:

@@ -5,7 +5,7 @@ from __future__ import annotations
 import os
 import re
 from pathlib import Path, PurePosixPath
-from typing import Optional
+from typing import Optional, Sequence, Set
 
 from abi_report.blocks import Block
 from abi_report.documents import Place
@@ -20,26 +20,37 @@ _HEADERS = (".h", ".hh", ".hpp", ".hxx", ".inc")
 
 
 class Headers:
-    """Which types callers see: those that a public header declares. Without a folder of public headers, only a type declared in a source
+    """Which types callers see: those that a public header declares. Without known public headers, only a type declared in a source
     file such as `.c` is known to be hidden."""
 
-    def __init__(self, folder: Optional[Path] = None) -> None:
-        """Finds the headers; other files in the folder do not count. A type counts as public if its header has the same file name as a
+    def __init__(self, names: Optional[Set[str]] = None) -> None:
+        """Takes the file names of the public headers, if they are known. A type counts as public if its header has the same file name as a
         public one, since headers are usually installed in another folder than the one where the library is built."""
-        self.folder = folder
-        self._names: set[str] = set()
+        self._names = names
+
+    @classmethod
+    def of(cls, folder: Optional[Path], packages: Sequence[Path]) -> "Headers":
+        """Finds the headers in a folder and in development packages; other files in them do not count. Raises a fault if a package cannot
+        be read."""
+        if folder is None and not packages:
+            return cls()
+        names: Set[str] = set()
         if folder is not None:
-            found = (name for _, _, names in os.walk(folder, followlinks=True) for name in names)
-            self._names = {name for name in found if PurePosixPath(name).suffix in _HEADERS}
+            found = (name for _, _, files in os.walk(folder, followlinks=True) for name in files)
+            names |= {name for name in found if PurePosixPath(name).suffix in _HEADERS}
+        for package in packages:
+            # Imported here, since few reports need it.
+            from abi_tools.package_headers import header_names
+
+            names |= header_names(package)
+        return cls(names)
 
     def hides(self, place: Optional[Place]) -> bool:
         """Whether callers do not see what is declared at this place. Without a place it counts as visible."""
         if place is None:
             return False
         file = PurePosixPath(place.file)
-        if self.folder is None:
-            return file.suffix in _SOURCES
-        return file.name not in self._names
+        return file.suffix in _SOURCES if self._names is None else file.name not in self._names
 
 
 def rule_section(block: Block, headers: Headers) -> Optional[str]:

@@ -9,7 +9,7 @@ import threading
 from pathlib import Path
 from typing import Mapping, Optional, Sequence
 
-from abi_tools.faults import Fault
+from abi_tools.faults import Fault, said_of_signal
 
 # The variables that ask for notes on what no rule judges, and for digests of the inputs.
 _NOTES = "ABI_NOTES"
@@ -42,7 +42,7 @@ class _Run:
         self._reader.join()
         status = self._process.returncode
         if status < 0:
-            raise Fault(f"the signal {-status} ended abi-json")
+            raise Fault(f"abi-json gave no answer: {said_of_signal(-status)}")
         if not self._printed:
             words = self._said.decode("utf-8", "replace").strip()
             raise Fault(f"abi-json ended with status {status} and printed nothing{': ' if words else ''}{words}")

@@ -7,8 +7,10 @@ from typing import Any, NoReturn
 
 from abi_tools import VERSION
 from abi_tools.faults import WRONG_ARGUMENTS
+from abi_tools.help_texts import HelpText
 from abi_tools.limits import LIMITS
 from abi_tools.shown import lines_shown
+from abi_tools.verdicts import DEFAULT_SHARE
 
 
 class Arguments(argparse.ArgumentParser):
@@ -18,7 +20,7 @@ class Arguments(argparse.ArgumentParser):
         super().__init__(prog=tool, description=description, epilog=statuses, allow_abbrev=False,
                          # a tool may have a --version of its own, with a value
                          conflict_handler="resolve",
-                         formatter_class=argparse.RawDescriptionHelpFormatter)
+                         formatter_class=HelpText)
         self.add_argument("--version", action="version", version=f"{tool} {VERSION}", help="print the version, and exit")
         self._wrong = wrong
 
@@ -35,12 +37,28 @@ def share(text: str) -> float:
     return value
 
 
+def add_require_types(parser: argparse.ArgumentParser) -> None:
+    """Adds the option that says how many exports must have types, with the default of all tools."""
+    parser.add_argument("--require-types", type=share, default=DEFAULT_SHARE, metavar="SHARE",
+                        help=f"the percentage of the compared exports that must have types in both libraries (default: {DEFAULT_SHARE:g}; "
+                             "with 0, one export must). Exports that never have types do not count: indirect functions (ifunc), functions "
+                             "in units of assembler, and symbols of size 0 without an entry, as linker scripts, and assembler without "
+                             ".size, make them")
+
+
 def number_above_0(text: str) -> int:
     """A number above 0. Raises an argument error for any other."""
     value = int(text)
     if value < 1:
         raise argparse.ArgumentTypeError(f"{text} is not above 0")
     return value
+
+
+def address(text: str) -> str:
+    """An address of a server. Raises an argument error for any other text."""
+    if not text.startswith(("http://", "https://")):
+        raise argparse.ArgumentTypeError(f"{text} is no address of a server")
+    return text
 
 
 class ShowLimits(argparse.Action):

@@ -16,14 +16,14 @@ Writes what `abi` reads of a library to a file, the baseline, that a project can
 judges the library (the same exports, binds and reports), but it has a digest of its own. Code and data are left out; debug information
 is unchanged, but inflated.
 """
-_STATUSES = "Exit status: 0 written; 1 not written, and a sentence says why; 64 wrong arguments."
+_STATUSES = "Exit status: 0 written; 2 not written, and a sentence says why; 64 wrong arguments."
 
 
 def main(arguments: Sequence[str]) -> int:
     """Writes the baseline as the arguments say, and returns 0. Raises a fault if that cannot be done."""
     parser = Arguments("abi-baseline", _DESCRIPTION, _STATUSES)
-    parser.add_argument("library", type=Path, metavar="LIB")
-    parser.add_argument("output", type=Path, metavar="OUT")
+    parser.add_argument("library", type=Path, metavar="LIB", help="the library, with its debug information")
+    parser.add_argument("output", type=Path, metavar="OUT", help="the file for the baseline")
     given = parser.parse_args(arguments)
     clear_output(given.output, [given.library])
     library = ElfFile(given.library)

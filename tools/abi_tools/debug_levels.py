@@ -17,7 +17,7 @@ from abi_tools.debug_contents import DebugContents
 from abi_tools.dwarf_tables import ATTRIBUTES, FORMS, TAGS, Table
 from abi_tools.dwarf_units import Tables, Unit, codes_used, units
 from abi_tools.elf_files import DAMAGED, ElfFile
-from abi_tools.unit_code import Range, code_of
+from abi_tools.unit_code import Range, code_of, is_assembler
 
 _SHOWS_TYPES = (ATTRIBUTES["DW_AT_type"], ATTRIBUTES["DW_AT_prototyped"])
 _IMPORTS = TAGS["DW_TAG_imported_unit"]
@@ -78,6 +78,18 @@ class Levels:
     def untyped(self) -> Code:
         """The code of the units without types."""
         return self._code(False)
+
+    @cached_property
+    def assembler(self) -> Code:
+        """The code of the units that are written in assembler, as far as it can be read."""
+        found = [self._code_of(unit) for unit, _ in self._units if self._is_assembler(unit)]
+        return Code(_joined(one for part in found for one in part or ()))
+
+    def _is_assembler(self, unit: Unit) -> bool:
+        try:
+            return is_assembler(self._sections, unit, self._tables.at(unit.table))
+        except DAMAGED:
+            return False
 
     def _code(self, typed: bool) -> Code:
         found = [self._code_of(unit) for unit, has_types in self._units if has_types == typed]

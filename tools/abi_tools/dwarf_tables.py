@@ -29,7 +29,7 @@ TAGS: Mapping[str, int] = {f"DW_TAG_{name}": number for name, number in {
     "volatile_type": 0x35, "restrict_type": 0x37, "imported_unit": 0x3D, "atomic_type": 0x47}.items()}
 # The attributes that the tools use (DWARF 5, 7.5.4, table 7.5).
 ATTRIBUTES: Mapping[str, int] = {f"DW_AT_{name}": number for name, number in {
-    "sibling": 0x01, "location": 0x02, "name": 0x03, "byte_size": 0x0B, "bit_offset": 0x0C, "bit_size": 0x0D, "stmt_list": 0x10,
+    "sibling": 0x01, "location": 0x02, "name": 0x03, "byte_size": 0x0B, "bit_offset": 0x0C, "bit_size": 0x0D, "stmt_list": 0x10, "language": 0x13,
     "low_pc": 0x11, "high_pc": 0x12, "comp_dir": 0x1B, "const_value": 0x1C, "prototyped": 0x27, "upper_bound": 0x2F, "count": 0x37,
     "abstract_origin": 0x31, "data_member_location": 0x38, "decl_file": 0x3A, "decl_line": 0x3B, "declaration": 0x3C, "external": 0x3F, "type": 0x49,
     "ranges": 0x55, "data_bit_offset": 0x6B, "str_offsets_base": 0x72, "addr_base": 0x73, "rnglists_base": 0x74,

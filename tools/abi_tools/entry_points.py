@@ -12,27 +12,27 @@ def abi_baseline() -> int:
 
 def abi_gate() -> int:
     """The command `abi-gate`."""
-    return start("abi-gate", "gate_command", fault_status=2)
+    return start("abi-gate", "gate_command")
 
 
 def abi_history() -> int:
     """The command `abi-history`."""
-    return start("abi-history", "command", fault_status=2, package="abi_history")
+    return start("abi-history", "command", package="abi_history")
 
 
 def abi_packages() -> int:
     """The command `abi-packages`."""
-    return start("abi-packages", "packages_command", fault_status=2)
+    return start("abi-packages", "packages_command")
 
 
 def abi_release() -> int:
     """The command `abi-release`."""
-    return start("abi-release", "command", fault_status=2, package="abi_release")
+    return start("abi-release", "command", package="abi_release")
 
 
 def abi_report() -> int:
     """The command `abi-report`."""
-    return start("abi-report", "command", fault_status=2, package="abi_report")
+    return start("abi-report", "command", package="abi_report")
 
 
 def join_debug() -> int:

@@ -12,6 +12,8 @@ from abi_tools.shown import line_shown
 
 # The exit status for wrong arguments, the same as that of `abi` (EX_USAGE of sysexits.h).
 WRONG_ARGUMENTS = 64
+# The exit status if a tool cannot do its work. It is that of `cannot tell`, and never 1, which means no.
+FAULT = 2
 # A shell reports a program that a signal ended with this status plus the number of the signal.
 ENDED_BY_SIGNAL = 128
 
@@ -60,7 +62,7 @@ def missing_library(error: ModuleNotFoundError) -> str:
     return f"there is no {library} for Python: install the package {PACKAGES[library]}"
 
 
-def run_tool(tool: str, main: Callable[[Sequence[str]], int], arguments: Sequence[str], fault_status: int = 1) -> int:
+def run_tool(tool: str, main: Callable[[Sequence[str]], int], arguments: Sequence[str], fault_status: int = FAULT) -> int:
     """Runs `main` and returns its exit status. If it raises an exception, prints a sentence on standard error and returns
     `fault_status`: an exception that Python prints would end the program with 1, which means no."""
     for number in (signal.SIGTERM, signal.SIGINT, signal.SIGHUP):

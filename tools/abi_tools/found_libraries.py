@@ -80,24 +80,25 @@ def contents_of(package: Package) -> Contents:
     files = [(name, file) for name, file in package.tree.files() if file.is_elf]
     found = Contents(seen=len(files))
     for name, file in files:
-        before = found.count()
-        if not name.startswith(_DEBUG):
+        if name.startswith(_DEBUG):
+            found.others += 1
+        else:
             _sort(found, package, name, file)
-        found.others += before == found.count()
     return found
 
 
 def _sort(found: Contents, package: Package, name: str, file: File) -> None:
-    """Puts a file where it belongs; programs and objects belong nowhere."""
+    """Puts a file where it belongs, or counts it as another one, such as a program or an object."""
     if file.kept is None:
         found.unreadable.append(Unreadable(name, package, file.refused))
         return
     header = header_of(file.kept)
-    if header is not None and not header.is_x86_64:
-        if header.is_dynamic and _SHARED in PurePosixPath(name).name:
-            found.left_out.append(LeftOut(name, "it is not for x86-64 with 64 bits"))
-    elif header is None or header.is_dynamic:
+    if header is None or header.is_x86_64 and header.is_dynamic:
         _sort_dynamic(found, package, name, file.kept)
+    elif header.is_dynamic and _SHARED in PurePosixPath(name).name:
+        found.left_out.append(LeftOut(name, "it is not for x86-64 with 64 bits"))
+    else:
+        found.others += 1
 
 
 def _sort_dynamic(found: Contents, package: Package, name: str, path: Path) -> None:
@@ -111,7 +112,8 @@ def _sort_dynamic(found: Contents, package: Package, name: str, path: Path) -> N
     if sections is None and view is None:
         found.unreadable.append(Unreadable(name, package, "; ".join(troubles)))
         return
-    if sections is not None and sections.is_debug:
+    if sections is not None and sections.is_debug and not (view is not None and view.has_symbols):
+        found.others += 1
         return
     soname = view.soname if view is not None else None
     if sections is not None and sections.soname is not None and sections.soname != soname:
@@ -125,6 +127,8 @@ def _sort_dynamic(found: Contents, package: Package, name: str, path: Path) -> N
         if size > LARGEST_FILE:
             troubles.append(f"it has {size} bytes, and abi reads no file of more than {LARGEST_FILE} bytes")
         found.libraries.append(PackagedLibrary(name, path, soname or file_name, package, "; ".join(troubles)))
+    else:
+        found.others += 1
 
 
 @dataclass(frozen=True)

@@ -6,21 +6,27 @@ yes says little, and a no may come from the missing types alone.
 
 from __future__ import annotations
 
+import math
 from dataclasses import dataclass
 from functools import cached_property
 from pathlib import Path
-from typing import Optional, Sequence
+from typing import Iterable, Optional, Sequence
 
 from abi_tools.abi_program import NO, Abi, Answer, Export
 from abi_tools.counting import counted
 from abi_tools.debug_levels import Levels
 from abi_tools.elf_files import ElfFile
 from abi_tools.faults import Fault
-from abi_tools.verdicts import Verdict
+from abi_tools.verdicts import DEFAULT_SHARE, Verdict
 
 # How many exports without types a reason names.
 _NAMED = 5
 _FOLDED = "gcc may have folded equal functions; build both libraries with -fno-ipa-icf, or by clang"
+_UNDESCRIBED = ("what is defined in assembler, or in a unit that is built without -g, has no type; define it in C, in a unit that is built "
+                "with -g")
+# The kinds of exports whose types are found by their code; all others are objects.
+_FUNCTIONS = ("FUNC", "NOTYPE")
+_INDIRECT = "IFUNC"
 
 
 @dataclass(frozen=True)
@@ -56,9 +62,13 @@ class Library:
 
     def is_described(self, export: Export) -> bool:
         """Whether there is debug information with types: for a function, of its code; for an object, of any code."""
-        if export.kind in ("FUNC", "NOTYPE"):
+        if export.kind in _FUNCTIONS:
             return self.levels.typed.has(self.values[export.number])
         return self.levels.has_types
+
+    def never_has_types(self, export: Export) -> bool:
+        """Whether it is known that no debug information has a type of an export: it is an indirect function, or written in assembler."""
+        return export.kind == _INDIRECT or (export.kind in _FUNCTIONS and self.levels.assembler.has(self.values[export.number]))
 
     def typed_count(self) -> tuple[int, int]:
         """How many of the exports with a size above 0 have types, and how many such exports there are."""
@@ -68,8 +78,8 @@ class Library:
 
 @dataclass(frozen=True)
 class Judgement:
-    """A verdict, the reasons if the gate cannot tell, the answer of `abi`, how many exports were compared, how many of them had types in
-    both libraries, and both libraries if they could be read."""
+    """A verdict, the reasons if the gate cannot tell, the answer of `abi`, how many exports were compared, how many of them have types in
+    both libraries, both libraries if they could be read, and how many of the compared exports can have types (all, if it is not said)."""
 
     verdict: Verdict
     reasons: tuple[str, ...]
@@ -78,9 +88,29 @@ class Judgement:
     typed: int = 0
     old: Optional[Library] = None
     new: Optional[Library] = None
+    counted: Optional[int] = None
+
+    @property
+    def counting(self) -> int:
+        """How many of the compared exports count for the share of those with types."""
+        return self.compared if self.counted is None else self.counted
+
+    def words(self) -> str:
+        """What was compared, in words."""
+        if self.compared and not self.counting:
+            return f"{self.compared} exports compared, all of them indirect functions or in assembler, which have no types"
+        return f"{self.compared} exports compared, {self.typed} with types{share_words(self.compared, self.counting, self.typed)}"
 
 
-def judge(abi: Abi, old_path: Path, new_path: Path, rules: Optional[Path], least_share: float = 0.0) -> Judgement:
+def share_words(compared: int, counting: int, typed: int) -> str:
+    """The share of exports with types, as words in brackets, if some of the compared exports lack them. It is rounded down, so that a share
+    that is too small never looks large enough."""
+    if typed == compared or not counting:
+        return ""
+    return f" ({math.floor(1000 * typed / counting) / 10:g} % of the {counting} that can have some)"
+
+
+def judge(abi: Abi, old_path: Path, new_path: Path, rules: Optional[Path], least_share: float = DEFAULT_SHARE) -> Judgement:
     """The verdict on two libraries. At least `least_share` percent of the compared exports must have types. If `abi` refuses an input
     or dies, the gate cannot tell."""
     answer = abi.check(old_path, new_path, rules)
@@ -93,29 +123,36 @@ def judge(abi: Abi, old_path: Path, new_path: Path, rules: Optional[Path], least
     return judge_answer(answer, old, new, least_share)
 
 
-def judge_answer(answer: Answer, old: Library, new: Library, least_share: float = 0.0) -> Judgement:
+def judge_answer(answer: Answer, old: Library, new: Library, least_share: float = DEFAULT_SHARE) -> Judgement:
     """The same verdict, from an answer yes or no of `abi` and from both libraries."""
     return _of_no(answer, old, new) if answer.status == NO else _of_yes(answer, old, new, least_share)
 
 
 def _of_yes(answer: Answer, old: Library, new: Library, least_share: float) -> Judgement:
-    """The verdict if `abi` said yes. Exports of size 0, as assembler has them, count only if there are no others."""
+    """The verdict if `abi` said yes."""
     bound = [(old.exports[one], new.exports[two]) for one, two in answer.bound]
-    counted = [(one, two) for one, two in bound if one.size] or bound
-    typed = sum(old.has_types(one) and new.has_types(two) for one, two in counted)
-    lost = sum(old.has_types(one) and new.lacks_types(two) for one, two in bound)
+    counting = [(one, two) for one, two in bound if _counts(old, new, one, two)]
+    is_without_types = all(old.never_has_types(one) and new.never_has_types(two) for one, two in bound)
+    typed = sum(old.has_types(one) and new.has_types(two) for one, two in counting)
+    lost = [two for one, two in bound if old.has_types(one) and new.lacks_types(two)]
     reasons = []
     if not bound:
         reasons.append("nothing was compared: no export of the old library, or none that the rule file does not leave out")
     elif lost:
-        reasons.append(_lost(lost, f"{new.path} {new.levels.reason()}"))
-    elif not typed:
-        reasons.append(f"no types were compared: {_without_types(old, new)}")
-    elif 100 * typed < least_share * len(counted):
-        reasons.append(f"{typed} of {len(counted)} exports have types in both libraries, which is less than {least_share:g} of 100: "
-                       f"{_untyped(counted, old, new)}")
+        reasons.append(_lost(len(lost), f"{new.path} {new.levels.reason()}"))
+    elif not typed and not is_without_types:
+        reasons.append(f"no types were compared: {_without_types(old, new, counting)}")
+    elif 100 * typed < least_share * len(counting):
+        reasons.append(f"{typed} of {len(counting)} exports have types in both libraries, which is less than {least_share:g} of 100: "
+                       f"{_untyped(counting, old, new)}")
     verdict = Verdict.CANNOT_TELL if reasons else Verdict.YES
-    return Judgement(verdict, tuple(reasons), answer, len(bound), typed, old, new)
+    return Judgement(verdict, tuple(reasons), answer, len(bound), typed, old, new, len(counting))
+
+
+def _counts(old: Library, new: Library, one: Export, two: Export) -> bool:
+    """Whether an export counts for the share of those with types. Debug information never has a type of an indirect function, of a
+    function in assembler, and of a symbol that a linker script, or assembler without `.size`, makes: it has the size 0 and no entry."""
+    return not (old.never_has_types(one) or new.never_has_types(two)) and (one.size > 0 or old.has_types(one))
 
 
 def _of_no(answer: Answer, old: Library, new: Library) -> Judgement:
@@ -123,11 +160,11 @@ def _of_no(answer: Answer, old: Library, new: Library) -> Judgement:
     doubtful = [row for row in answer.rows if _is_doubtful(row, old, new)]
     if len(doubtful) < len(answer.rows):
         return Judgement(Verdict.NO, (), answer, old=old, new=new)
-    labels = {row.split(" ", 2)[1].rstrip(":") for row in doubtful}
+    labels = list(dict.fromkeys(row.split(" ", 2)[1].rstrip(":") for row in doubtful))
     if any(old.lacks_types(old.by_label[label]) for label in labels if label in old.by_label):
         reason = f"{counted(len(labels), 'export')} cannot be compared: {old.path} {old.levels.reason()}"
     elif all(new.is_described(new.by_label[label]) for label in labels if label in new.by_label):
-        reason = _lost(len(labels), f"{new.path} has types for the code around them: {_FOLDED}")
+        reason = _lost(len(labels), _beside_types([new.by_label[label] for label in labels if label in new.by_label], new))
     else:
         reason = _lost(len(labels), f"{new.path} {new.levels.reason()}")
     return Judgement(Verdict.CANNOT_TELL, (reason,), answer, old=old, new=new)
@@ -148,18 +185,41 @@ def _lost(count: int, why: str) -> str:
     return f"the types of {counted(count, 'export')} are gone: {why}"
 
 
+def _beside_types(exports: Sequence[Export], new: Library) -> str:
+    """Says why exports may have no types although a library has types of other code, and what helps: functions were folded, and objects
+    were not."""
+    functions = [one.label for one in exports if one.kind in _FUNCTIONS]
+    objects = [one.label for one in exports if one.kind not in _FUNCTIONS]
+    said = []
+    if functions:
+        said.append(f"{new.path} has types for the code around {_named(functions)}: {_FOLDED}")
+    if objects:
+        said.append(f"{new.path} has types, but none of {counted(len(objects), 'object')}, {_named(objects)}: {_UNDESCRIBED}")
+    return "; ".join(said)
+
+
+def _named(labels: Iterable[str]) -> str:
+    """The first labels, and how many more there are."""
+    found = list(dict.fromkeys(labels))
+    more = f" and {len(found) - _NAMED} more" if len(found) > _NAMED else ""
+    return f"{', '.join(found[:_NAMED])}{more}"
+
+
 def _untyped(pairs: Sequence[tuple[Export, Export]], old: Library, new: Library) -> str:
-    """Names the first exports without types in one of the libraries, and says what helps if gcc may have folded equal functions."""
+    """Names the first exports without types in one of the libraries, and says what helps: for functions that gcc may have folded, and for
+    objects."""
     lacking = [(library, one) for pair in pairs for library, one in zip((old, new), pair) if not library.has_types(one)]
-    labels = list(dict.fromkeys(export.label for _, export in lacking))
-    more = f" and {len(labels) - _NAMED} more" if len(labels) > _NAMED else ""
-    folded = any(not export.is_typed and library.is_described(export) for library, export in lacking)
-    return f"no types of {', '.join(labels[:_NAMED])}{more}{f'; {_FOLDED}' if folded else ''}"
+    beside = [one for library, one in lacking if not one.is_typed and library.is_described(one)]
+    advice = [_FOLDED] if any(one.kind in _FUNCTIONS for one in beside) else []
+    advice += [_UNDESCRIBED] if any(one.kind not in _FUNCTIONS for one in beside) else []
+    return "; ".join([f"no types of {_named(export.label for _, export in lacking)}", *advice])
 
 
-def _without_types(old: Library, new: Library) -> str:
+def _without_types(old: Library, new: Library, counting: Sequence[object]) -> str:
     """Says which library has no types, and why."""
+    if not counting:
+        return (f"all exports of {old.path} have size 0, as in assembler without .size, and no types"
+                if all(not export.size for export in old.exports.values()) else
+                f"all exports of {old.path} are indirect functions, in assembler, or of size 0 and without types")
     untyped = [library for library in (old, new) if not library.typed_count()[0]] or [old, new]
-    if all(not export.size for export in old.exports.values()):
-        return f"all exports of {old.path} have size 0, as in assembler without .size, and no types"
     return ", and ".join(f"{one.path} {one.levels.reason()}" for one in untyped)

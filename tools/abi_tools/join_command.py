@@ -15,7 +15,7 @@ in place and inflated, and the contents of a supplementary file (dwz -m) are mer
 below FOLDER, by the library's build id and by .gnu_debuglink; a library with debug information of its own needs none. The debug file
 must be of the library's build. OUTPUT exists at the end if and only if the exit status is 0.
 """
-_STATUSES = "Exit status: 0 joined; 1 not joined, and a sentence says why; 64 wrong arguments."
+_STATUSES = "Exit status: 0 joined; 2 not joined, and a sentence says why; 64 wrong arguments."
 
 
 def main(arguments: Sequence[str]) -> int:

@@ -21,6 +21,7 @@ from abi_tools.output_file import write_whole
 from abi_tools.package_sides import PackagedLibrary, Pair, Side, package_rules
 from abi_tools.shown import line_shown, name_shown
 from abi_tools.verdicts import Verdict
+from abi_tools.verifying import Libraries, verified
 
 # The prefix of a note of `abi`.
 _NOTE = "abi: note: "
@@ -55,8 +56,8 @@ class Line:
 @dataclass(frozen=True)
 class Judging:
     """How libraries are judged: the folder `work`, in which `abi` runs; both sides; the folder for certificates; the folder for the
-    joined libraries of a no, if they are kept; the rule file of the command line; the share of exports that must have types; and the
-    sonames of libraries that are left out."""
+    joined libraries of a no, if they are kept; the rule file of the command line; the share of exports that must have types; the sonames
+    of libraries that are left out; and whether the certificates are there already and only checked."""
 
     work: Path
     sides: tuple[Side, Side]
@@ -65,6 +66,7 @@ class Judging:
     rules: Optional[Path]
     least_share: float
     left_out: tuple[str, ...]
+    verifies: bool = False
 
     def line_without_work(self, pair: Pair) -> Optional[Line]:
         """The line of a library that needs no comparison; None for any other."""
@@ -92,7 +94,7 @@ class Judging:
         rules, said_of_rules = (self.rules, "") if self.rules else package_rules(pair, self.sides, folder)
         reasons = [put_joined(library, side, folder / place / name)
                    for library, side, place in zip((pair.old, pair.new), self.sides, ("old", "new"))]
-        judgement = doubted(judge(Abi(folder), Path("old", name), Path("new", name), rules, self.least_share), pair)
+        judgement = doubted(self._judgement(folder, name, rules), pair)
         kept = [*self._keep(name, judgement), *self._keep_libraries(name, judgement.verdict, rules)]
         more = [pair.folders, f"rules {said_of_rules}" if said_of_rules else ""]
         parts = [_outcome(judgement), *_types(judgement), *(one for one in more if one), *kept]
@@ -102,8 +104,17 @@ class Judging:
             (folder / place / name).unlink()
         return Line(judgement.verdict.words(), pair.name, "; ".join(parts), judgement.verdict, _notes(judgement))
 
+    def _judgement(self, folder: Path, name: str, rules: Optional[Path]) -> Judgement:
+        """The judgement of `abi`, or that by the certificate."""
+        abi, old, new = Abi(folder), Path("old", name), Path("new", name)
+        if self.verifies:
+            return verified(abi, Libraries(old, new, rules), self.certificates / f"{name}.cert", self.least_share)
+        return judge(abi, old, new, rules, self.least_share)
+
     def _keep(self, name: str, judgement: Judgement) -> Sequence[str]:
         """Keeps the certificate of a yes or the report of a no of `abi`, and removes what an earlier run kept."""
+        if self.verifies:
+            return [f"accepted certificate {self.certificates / name}.cert"] if judgement.answer is not None else []
         for suffix in (".cert", ".report"):
             (self.certificates / f"{name}{suffix}").unlink(missing_ok=True)
         answer = judgement.answer
@@ -201,7 +212,7 @@ def _outcome(judgement: Judgement) -> str:
     if judgement.verdict == Verdict.YES:
         if judgement.old is not None and not judgement.old.exports:
             return "the old library has no exports, so nothing that callers use can break"
-        return f"{judgement.compared} exports compared, {judgement.typed} with types"
+        return judgement.words()
     if judgement.verdict == Verdict.NO and judgement.answer is not None:
         return counted(len(judgement.answer.rows), "break")
     return ", ".join(judgement.reasons)

@@ -8,6 +8,7 @@ from functools import cached_property
 from pathlib import Path
 from typing import Iterator, Optional, Sequence
 
+from abi_tools.debuginfod import Debuginfod, ServedPlaces
 from abi_tools.faults import Fault
 from abi_tools.found_libraries import Contents, LeftOut, PackagedLibrary, Unreadable, contents_of
 from abi_tools.package_debug import PackagePlaces
@@ -20,11 +21,12 @@ __all__ = ["PackagedLibrary", "Pair", "Side", "libraries", "package_rules", "pai
 
 @dataclass(frozen=True)
 class Side:
-    """One side of the comparison: its packages, and what they bring. Packages of debug information alone are only searched for debug
-    files."""
+    """One side of the comparison: its packages, what they bring, and the servers of debug files that the packages lack, if there are any.
+    Packages of debug information alone are only searched for debug files."""
 
     packages: tuple[Package, ...]
     contents: tuple[Contents, ...]
+    servers: Optional[Debuginfod] = None
 
     @classmethod
     def of(cls, packages: Sequence[Package], contents: Sequence[Contents]) -> "Side":
@@ -62,7 +64,7 @@ class Side:
     @cached_property
     def places(self) -> PackagePlaces:
         """Where the debug files of its libraries lie."""
-        return PackagePlaces(self.packages)
+        return PackagePlaces(self.packages) if self.servers is None else ServedPlaces(self.packages, self.servers)
 
 
 def _refuse_second(packages: Sequence[Package]) -> None:

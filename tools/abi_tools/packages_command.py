@@ -7,12 +7,14 @@ import os
 import sys
 import tempfile
 from collections import Counter
+from dataclasses import replace
 from functools import partial
 from pathlib import Path
 from typing import Callable, Iterable, Iterator, Optional, Sequence
 
-from abi_tools.arguments import Arguments, ShowLimits, number_above_0, share
+from abi_tools.arguments import Arguments, ShowLimits, add_require_types, address, number_above_0
 from abi_tools.counting import counted
+from abi_tools.debuginfod import Debuginfod
 from abi_tools.faults import Fault
 from abi_tools.found_libraries import Contents, contents_of
 from abi_tools.jobs import Failure, StepLimits, Steps, default_megabytes, processors
@@ -26,7 +28,7 @@ from abi_tools.verdicts import Verdict
 _DESCRIPTION = """\
 Says of each library in packages whether the one in the new packages may replace the one in the old packages. OLD and NEW are .deb or
 .rpm files: those of the libraries, and those of their debug information. Libraries are paired by soname and joined with their debug
-information; `abi check` judges each pair. Options come before the files.
+information; `abi check` judges each pair. Options come before the --.
 """
 _STATUSES = """\
 Exit status:
@@ -48,26 +50,44 @@ def main(arguments: Sequence[str]) -> int:
     parser = _parser()
     before, new = _parted(arguments)
     given = parser.parse_args(before)
-    if new is None or not new:
+    if new is None and given.fetch:
+        given.old, new = [], [str(file) for file in given.old]
+    if not new:
         parser.error("the new packages are missing: they come after --")
+    if given.mirror and not given.fetch:
+        parser.error("--mirror says where --fetch looks")
     if any(name.startswith("-") for name in new):
-        parser.error("options come before the files")
+        parser.error("options come before the --")
+    if given.verify is not None and given.keep is not None:
+        parser.error("--keep and --verify exclude each other")
     return int(_judge(given, [Path(name) for name in new]))
 
 
 def _parser() -> Arguments:
     parser = Arguments("abi-packages", _DESCRIPTION, _STATUSES)
-    parser.usage = ("abi-packages [--rules FILE] [--require-types SHARE] [--certificates FOLDER] [--keep FOLDER] [--leave-out SONAME].. "
-                    "[--only KIND].. [--quiet] [--workers N] [--memory MB] [--seconds S] OLD.. -- NEW..")
+    parser.usage = ("abi-packages [--rules FILE] [--require-types SHARE] [--certificates FOLDER | --verify FOLDER] [--keep FOLDER] "
+                    "[--leave-out SONAME].. [--debuginfod URL].. [--only KIND].. [--quiet] [--workers N] [--memory MB] [--seconds S] "
+                    "(OLD.. -- NEW.. | --fetch [--mirror LINE].. [OLD.. --] NEW..)")
     parser.add_argument("--rules", type=Path, metavar="FILE",
                         help="a rule file of abi (default: usr/share/doc/PACKAGE/abi.rules of the new package, or else of the old one)")
-    parser.add_argument("--require-types", type=share, default=0.0, metavar="SHARE",
-                        help="the percentage of compared exports that must have types in both libraries (default: at least one export)")
+    add_require_types(parser)
     parser.add_argument("--certificates", type=Path, default=Path("abi-certificates"), metavar="FOLDER",
                         help="where to keep certificates and reports; they replace those of earlier runs on libraries with the same "
                              "sonames (default: abi-certificates)")
     parser.add_argument("--keep", type=Path, metavar="FOLDER",
                         help="where to keep both joined libraries of a no, for abi-report (default: nowhere)")
+    parser.add_argument("--verify", type=Path, metavar="FOLDER",
+                        help="do not judge, but check the certificates in FOLDER that an earlier run kept; a library without a certificate "
+                             "that is accepted gets no yes")
+    parser.add_argument("--fetch", action="store_true",
+                        help="fetch what is not given by way of apt: the packages of debug information and, without --, the previous "
+                             "versions of the packages, which are then those of the new build")
+    parser.add_argument("--mirror", action="append", default=[], metavar="LINE",
+                        help="where --fetch looks in place of the sources of apt: a line of sources.list(5) without the word deb, such as "
+                             "'http://deb.debian.org/debian bookworm main'; may be given several times")
+    parser.add_argument("--debuginfod", action="append", default=[], type=address, metavar="URL",
+                        help="a server of debug files (debuginfod(8)) that the packages lack; may be given several times (default: with "
+                             "--fetch those of the variable DEBUGINFOD_URLS, else none)")
     parser.add_argument("--leave-out", action="append", default=[], metavar="SONAME",
                         help="a library to leave out, such as one in C++; may be given several times")
     parser.add_argument("--only", action="append", default=[], choices=sorted(_KINDS), metavar="KIND",
@@ -96,20 +116,49 @@ def _parted(arguments: Sequence[str]) -> tuple[list[str], Optional[list[str]]]:
 def _judge(given: argparse.Namespace, new: Sequence[Path]) -> Verdict:
     if given.rules is not None and not given.rules.is_file():
         raise Fault(f"there is no rule file {given.rules}")
-    given.certificates.mkdir(parents=True, exist_ok=True)
+    if given.verify is None:
+        given.certificates.mkdir(parents=True, exist_ok=True)
+    elif not given.verify.is_dir():
+        raise Fault(f"there is no folder {given.verify}")
     limits = StepLimits(given.memory or default_megabytes(given.workers), given.seconds)
     with tempfile.TemporaryDirectory(prefix="abi-packages-") as folder:
         work = Path(folder)
-        sides = _sides(given.old, new, work, limits, given.workers)
+        old, new = (given.old, new) if not given.fetch else _fetched(given, new, work / "fetched", limits)
+        sides = _served(_sides(old, new, work, limits, given.workers), given, work / "served")
         found = pairs(*sides)
         _refuse_unknown(given.leave_out, found)
-        judging = Judging(work / "libraries", sides, given.certificates, given.keep, given.rules.resolve() if given.rules else None,
-                          given.require_types, tuple(given.leave_out))
+        judging = Judging(work / "libraries", sides, given.verify or given.certificates, given.keep,
+                          given.rules.resolve() if given.rules else None, given.require_types, tuple(given.leave_out),
+                          given.verify is not None)
         lines = [*_lines(judging, found, limits, given.workers), *_left_out(sides)]
         _check_count(sides, found, lines)
     lines.sort(key=lambda line: (_ORDER.index(line.word), line.name))
     _print(lines, given)
     return worst(lines)
+
+
+def _fetched(given: argparse.Namespace, new: Sequence[Path], folder: Path, limits: StepLimits) -> tuple[list[Path], list[Path]]:
+    """Both sides, with what was not given. Raises a fault if it cannot be had."""
+    # Imported here, since only --fetch needs the library for Debian's control files.
+    from abi_tools.fetching import Completed, completed
+
+    folder.mkdir()
+    _, found = next(Steps[Completed](limits, 1).run([partial(completed, given.old, new, folder, given.mirror)]))
+    if isinstance(found, Failure):
+        raise Fault(found.reason)
+    for note in found.notes:
+        print(line_shown(f"abi-packages: {note}"), file=sys.stderr)
+    return found.old, found.new
+
+
+def _served(sides: tuple[Side, Side], given: argparse.Namespace, folder: Path) -> tuple[Side, Side]:
+    """Both sides, with the servers that have their debug files."""
+    named = given.debuginfod or (os.environ.get("DEBUGINFOD_URLS", "").split() if given.fetch else [])
+    if not named:
+        return sides
+    folder.mkdir()
+    old, new = (replace(side, servers=Debuginfod(tuple(named), folder)) for side in sides)
+    return old, new
 
 
 def _sides(old: Sequence[Path], new: Sequence[Path], work: Path, limits: StepLimits, workers: int) -> tuple[Side, Side]:

@@ -21,6 +21,8 @@ _END, _BASE_INDEX, _INDEXES, _INDEX_LENGTH, _OFFSETS, _BASE, _ADDRESSES = range(
 # Where the addresses and offsets begin, after the header, if the root does not say so (DWARF 5, 7.27 and 7.28).
 _FIRST_ADDRESS = 8
 _FIRST_LIST = 12
+# DW_LANG_Mips_Assembler, which assemblers of all machines write.
+_ASSEMBLER = 0x8001
 _INDEX_FORMS = ("DW_FORM_addrx", "DW_FORM_addrx1", "DW_FORM_addrx2", "DW_FORM_addrx3", "DW_FORM_addrx4")
 
 Range = tuple[int, int]
@@ -33,6 +35,12 @@ def code_of(sections: Sections, unit: Unit, table: Table) -> list[Range]:
     """The start and end of each range of a unit's code. Raises one of `elf_files.DAMAGED` if bytes are damaged."""
     root = Root(sections, unit, _values(sections[".debug_info"], unit, table))
     return list(root.ranges())
+
+
+def is_assembler(sections: Sections, unit: Unit, table: Table) -> bool:
+    """Whether the root of a unit says that it is written in assembler. Raises one of `elf_files.DAMAGED` if bytes are damaged."""
+    _, language = _values(sections[".debug_info"], unit, table).get(ATTRIBUTES["DW_AT_language"], ("", 0))
+    return language == _ASSEMBLER
 
 
 def listed_code(section: bytes) -> Iterator[tuple[int, int, int]]:

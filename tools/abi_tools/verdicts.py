@@ -4,6 +4,9 @@ from __future__ import annotations
 
 import enum
 
+# The percentage of the compared exports that must have types in both libraries, if the arguments name no other.
+DEFAULT_SHARE = 90.0
+
 
 class Verdict(enum.IntEnum):
     """A verdict, which is also the exit status of a gate."""

@@ -1,0 +1,82 @@
+"""Gets what was not given to `abi-packages`: the previous version of a package, and packages of debug information."""
+
+from __future__ import annotations
+
+from dataclasses import dataclass
+from pathlib import Path
+from typing import Optional, Sequence
+
+from abi_tools.apt_archive import AptArchive
+from abi_tools.deb_control import About, about
+from abi_tools.faults import Fault
+from abi_tools.shown import name_shown
+
+
+@dataclass(frozen=True)
+class _Package:
+    """A package of a side: what it is, and its file, if it is there."""
+
+    about: About
+    file: Optional[Path] = None
+
+
+@dataclass(frozen=True)
+class Completed:
+    """The files of both sides, and a sentence for each that was not given, and for each package without an earlier version."""
+
+    old: list[Path]
+    new: list[Path]
+    notes: list[str]
+
+
+def completed(old: Sequence[Path], new: Sequence[Path], folder: Path, mirrors: Sequence[str]) -> Completed:
+    """Both sides, with the packages of debug information that they lack, from the archive that apt knows or from mirrors. If `old` is
+    empty, it becomes the previous versions of the new packages. What is fetched is kept in `folder`. Raises a fault if a package is no
+    .deb, or if there is no previous version of any."""
+    archive = AptArchive(folder, mirrors)
+    news = [_Package(about(file), file) for file in new]
+    olds = [_Package(about(file), file) for file in old] if old else _previous(news, archive)
+    sides = _with_debug(olds, archive), _with_debug(news, archive)
+    fetched = archive.download(list(dict.fromkeys(one.about for side in sides for one in side if one.file is None)))
+    notes = [f"{said}: {f'fetched {one.about}' if one.file is None else f'found {name_shown(str(one.file))}'}"
+             for said, side in zip(("old", "new"), sides) for one in side if one.file not in (*old, *new)]
+    first = {one.about.name for one in olds}
+    notes += [f"the archive has no version of {one.about.name} before {one.about.version}"
+              for one in news if not old and not one.about.is_debug and one.about.name not in first]
+    before, after = ([one.file or fetched[one.about] for one in side] for side in sides)
+    return Completed(before, after, notes)
+
+
+def _previous(news: Sequence[_Package], archive: AptArchive) -> list[_Package]:
+    """The previous versions of packages."""
+    packages = [one.about for one in news if not one.about.is_debug]
+    found = [_Package(previous) for package in packages for previous in archive.previous(package)]
+    if not found:
+        names = ", ".join(sorted({str(package) for package in packages}))
+        raise Fault(f"the archive has no earlier version of {names or 'a package of libraries'}: name the old packages")
+    return found
+
+
+def _with_debug(side: Sequence[_Package], archive: AptArchive) -> list[_Package]:
+    """The packages of a side, and those of debug information that it lacks."""
+    found = list(side)
+    for one in side:
+        if not one.about.is_debug and not any(other.about.has_debug_of(one.about) for other in found):
+            known = {other.about for other in found}
+            found += _beside(one) or [_Package(debug) for debug in archive.debug_packages(one.about) if debug not in known]
+    return found
+
+
+def _beside(package: _Package) -> list[_Package]:
+    """The package of debug information in the folder of a package that is there, where `dpkg-buildpackage` leaves it."""
+    if package.file is None:
+        return []
+    name, version = f"{package.about.name}-dbgsym", package.about.version
+    for form in (version.partition(":")[2] or version, version.replace(":", "%3a")):
+        for suffix in ("deb", "ddeb"):
+            place = package.file.parent / f"{name}_{form}_{package.about.architecture}.{suffix}"
+            if place.is_file():
+                found = about(place)
+                if (found.name, found.version) == (name, version):
+                    return [_Package(found, place)]
+    return []

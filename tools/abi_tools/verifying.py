@@ -1,0 +1,59 @@
+"""Checks certificates that were kept against the libraries of packages."""
+
+from __future__ import annotations
+
+import os
+import stat
+from dataclasses import dataclass
+from pathlib import Path
+from typing import Optional
+
+from abi_tools.abi_program import YES, Abi, Answer
+from abi_tools.faults import Fault
+from abi_tools.gates import Judgement, Library, judge_answer
+from abi_tools.limits import LARGEST_FILE
+from abi_tools.verdicts import Verdict
+
+# The name in the folder in which `abi` runs.
+_COPY = Path("certificate")
+
+
+@dataclass(frozen=True)
+class Libraries:
+    """Both libraries that a certificate must be of, and the rule file, if there is one."""
+
+    old: Path
+    new: Path
+    rules: Optional[Path]
+
+    def words(self) -> list[str]:
+        """The arguments of `abi` for them."""
+        options = [] if self.rules is None else [f"--rules={self.rules}"]
+        return [*options, "--", str(self.old), str(self.new)]
+
+
+def verified(abi: Abi, libraries: Libraries, certificate: Path, least_share: float) -> Judgement:
+    """The verdict on two libraries by a certificate: if `abi verify` accepts it, what the gate says of a yes with this certificate;
+    otherwise that it cannot be told. What a certificate says is believed only when it has been accepted."""
+    text = _text(certificate)
+    (abi.folder / _COPY).write_bytes(text)
+    checked = abi.run("verify", *libraries.words(), str(_COPY))
+    if checked.status != YES or checked.text != "accepted\n":
+        said = "; ".join([*checked.text.splitlines(), *(line.removeprefix("abi: ") for line in checked.notes.splitlines())])
+        reason = f"{certificate} is no certificate of these libraries: {said}" if checked.status > 0 and said else checked.why()
+        return Judgement(Verdict.CANNOT_TELL, (reason,), None)
+    answer = Answer(YES, text.decode("utf-8", "surrogateescape"), checked.notes)
+    return judge_answer(answer, Library.read(abi, libraries.old), Library.read(abi, libraries.new), least_share)
+
+
+def _text(certificate: Path) -> bytes:
+    """The bytes of a certificate. Raises a fault if there is none, or no regular file: the folder may have come in a package."""
+    try:
+        file = os.open(certificate, os.O_RDONLY | os.O_NOFOLLOW | os.O_NONBLOCK | os.O_CLOEXEC)
+    except FileNotFoundError as error:
+        raise Fault(f"there is no certificate {certificate}") from error
+    with os.fdopen(file, "rb") as stream:
+        status = os.fstat(file)
+        if not stat.S_ISREG(status.st_mode) or status.st_size > LARGEST_FILE:
+            raise Fault(f"{certificate} is no file, or has more than {LARGEST_FILE} bytes")
+        return stream.read(LARGEST_FILE + 1)
