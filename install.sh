@@ -1,15 +1,33 @@
 #!/usr/bin/env bash
 # Proves the programs abi and abi-json and the crates that they use, several at a time, builds both, and installs them: the programs
-# and links to the tools in PREFIX/bin, the tools in PREFIX/lib/abi/tools, and the manual pages and completions in PREFIX/share.
-# Installs nothing unless every proof passes.
+# and links to the tools in PREFIX/bin, the tools in PREFIX/lib/abi/tools, the macros for rpmbuild in PREFIX/lib/rpm/macros.d, and manual
+# pages, completions, the module for CMake, pages, schemas, recipes and the licence in PREFIX/share. Installs nothing unless every proof
+# passes.
 #
-# usage: ./install.sh [PREFIX]   (default: $HOME/.local)
+# usage: ./install.sh [--static] [PREFIX]   (default: $HOME/.local)
+#
+# --static links the programs with gcc and the C library's archive, so that they run on any Linux for x86-64. Otherwise they need the
+# version of the C library that the kit has. With DESTDIR set, all files are put below that folder, as packagers need it.
 #
 # It proves on a copy, as the gate does, without tests and wrong edits. What the gate or an earlier run on this machine proved is not
 # proved again. JOBS sets how many crates are proved at a time; rt chooses if it is not set.
 set -euo pipefail
 
+static=
+if [ "${1:-}" = --static ]; then
+    static=yes
+    shift
+fi
+case $#:${1:-} in
+0:* | 1:[!-]*) ;;
+*)
+    echo "usage: ./install.sh [--static] [PREFIX]" >&2
+    exit 64
+    ;;
+esac
 prefix=$(realpath -m "${1:-$HOME/.local}")
+# Where files go; what they say of each other is relative.
+[ -z "${DESTDIR:-}" ] || prefix=$(realpath -m "$DESTDIR")$prefix
 cd "$(dirname "$0")"
 root=$PWD
 crates=$PWD/crates.txt
@@ -22,6 +40,7 @@ fail() {
 }
 
 command -v rt >/dev/null || fail "the command rt of the Rattle toolchain is missing: put the folder bin of a Rattle kit on PATH"
+[ -z "$static" ] || command -v gcc >/dev/null || fail "there is no gcc, which --static needs"
 
 work=$(mktemp -d)
 trap 'rm -rf "$work"' EXIT
@@ -41,6 +60,14 @@ needed() {
             count = split(programs, program, " ")
             for (i = 1; i <= count; i++) visit(substr(program[i], index(program[i], ":") + 1))
         }' "$crates"
+}
+
+# linked_statically CRATE: links the object file of a program, which rt leaves beside it, with the kit's C code and the C library's archive.
+linked_statically() {
+    local out=$work/crates/$1/out/$1 kit
+    kit=$(dirname "$(rt doc)")
+    [ -f "$out.o" ] || fail "rt left no object file $1.o"
+    gcc -static-pie -s -o "$out" "$out.o" "$kit/c/libos_c.a" "$kit/c/liblibc_c.a" || fail "the program of $1 cannot be linked statically"
 }
 
 # follow: keeps what rt prints in the log, and shows the progress by crate.
@@ -72,6 +99,7 @@ echo "proving $(wc -l <"$work/crates.txt") crates; the first time takes half an 
 }
 for program in $programs; do
     [ -x "$work/crates/${program#*:}/out/${program#*:}" ] || fail "the program of ${program#*:} was not built; all that rt printed is in $log"
+    [ -z "$static" ] || linked_statically "${program#*:}"
 done
 rm -f "$log"
 
@@ -93,12 +121,18 @@ for package in abi abi_tools abi_report abi_release abi_history; do
     mkdir "$prefix/lib/abi/tools/$package"
     install -m 644 "$root/tools/$package"/*.* "$prefix/lib/abi/tools/$package"
 done
-# Compiles the modules and the template of the page, since users may not write there. The tools also run without.
-(cd "$prefix/lib/abi/tools" && unset PYTHONDONTWRITEBYTECODE && /usr/bin/python3 -m compileall -q . &&
-    /usr/bin/python3 -c 'from abi_report.pages import page_writer; page_writer()') >/dev/null 2>&1 || true
 echo "installed the tools in $prefix/lib/abi/tools, with links in $prefix/bin"
+
+install -D -m 644 "$root/tools/rpm/macros.abi" "$prefix/lib/rpm/macros.d/macros.abi"
 
 (cd "$root/share" && find . -type f -print) | while IFS= read -r file; do
     install -D -m 644 "$root/share/$file" "$prefix/share/$file"
 done
-echo "installed the manual pages and completions in $prefix/share"
+# The pages lie to each other as in the sources, so that their links lead somewhere.
+rm -rf "$prefix/share/doc/abi"
+(cd "$root" && find README.md CHANGELOG.md LICENSE docs examples -type f ! -name '*.so*' -print) | while IFS= read -r file; do
+    mode=644
+    [ ! -x "$root/$file" ] || mode=755
+    install -D -m "$mode" "$root/$file" "$prefix/share/doc/abi/$file"
+done
+echo "installed manual pages, completions, pages, schemas and recipes in $prefix/share"

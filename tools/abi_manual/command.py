@@ -10,11 +10,12 @@ from abi_tools.arguments import Arguments
 from abi_manual.completions import completion
 from abi_manual.manual_pages import abi_page, json_page
 from abi_manual.sources import read_manual
+from abi_manual.tool_completions import tool_completion
 from abi_manual.tool_pages import tool_page
 
 _DESCRIPTION = """\
-Makes the manual pages and completions of share/ from tools/abi_manual/commands.toml, and those of the tools in Python also from what
-they print with --help.
+Makes the manual pages and completions of share/ from tools/abi_manual/commands.toml and the table of rules in docs/GUIDE.md, and those
+of the tools in Python also from what they print with --help and from the arguments that they take.
 """
 _STATUSES = "Exit status: 0 written, or with --check all files are as they should be; 1 not; 64 wrong arguments."
 SHARE = Path(__file__).resolve().parents[2] / "share"
@@ -28,6 +29,7 @@ def made() -> dict[str, str]:
         "bash-completion/completions/abi": completion(manual, "abi"),
         "bash-completion/completions/abi-json": completion(manual, "abi-json", ("report",)),
         **{f"man/man1/{name}.1": tool_page(manual, name) for name in manual.tools},
+        **{f"bash-completion/completions/{name}": tool_completion(name, tool["module"]) for name, tool in manual.tools.items()},
     }
 
 

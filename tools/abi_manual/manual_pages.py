@@ -6,11 +6,15 @@ import re
 import textwrap
 from typing import Iterable, Iterator
 
+from abi_manual.rules_of_guide import rules
 from abi_manual.sources import Command, Manual
 
 _WIDTH = 76
 _OPTIONS = "Options may come anywhere among the arguments, each once, as `--rules` *FILE* or `--rules=`*FILE*. After the argument `--` there are none."
 _MARKED = re.compile(r"`([^`]*)`|\*([^*]*)\*")
+_RULES = "A line of a report begins with the rule that is broken. Exports have rules in X, and types in L."
+# The variables of the environment that the programs read.
+_READ_BY_ABI, _READ_BY_JSON = ("ABI_NOTES",), ("ABI_NOTES", "ABI_DIGESTS")
 # Options that abi-json does not take.
 _CHOSEN_BY_JSON = ("report",)
 
@@ -26,9 +30,11 @@ def abi_page(manual: Manual) -> str:
         ".SH OPTIONS", *sentences(_OPTIONS),
         *_options(manual, ()),
         *_statuses(manual), ".PP", "With each status from 2 on, a sentence on standard error says what is wrong.",
+        ".SH RULES", *sentences(_RULES), *_rules(),
+        *environment(manual, _READ_BY_ABI),
         ".SH LIMITS", *paragraphs(source["limits"]),
         *_examples(source["example"]),
-        ".SH SEE ALSO", ".BR abi\\-json (1),", ".BR abi\\-gate (1),", ".BR abi\\-packages (1),", ".BR abi\\-report (1),", ".BR abidiff (1),", ".BR readelf (1),", ".BR pahole (1)",
+        *see_also(["abi-json", *manual.tools, "abidiff", "readelf", "pahole"]),
     ]
     return "\n".join(lines) + "\n"
 
@@ -43,8 +49,9 @@ def json_page(manual: Manual) -> str:
         ".SH DESCRIPTION", *paragraphs(source["document"]),
         ".SH OPTIONS", *_options(manual, _CHOSEN_BY_JSON),
         *_statuses(manual), ".PP", "With status 4 and no document, a sentence on standard error says what is wrong.",
+        *environment(manual, _READ_BY_JSON),
         *_examples(source["json_example"]),
-        ".SH SEE ALSO", ".BR abi (1),", ".BR jq (1)",
+        *see_also(["abi", *manual.tools, "jq"]),
     ]
     return "\n".join(lines) + "\n"
 
@@ -137,6 +144,28 @@ def _statuses(manual: Manual) -> Iterator[str]:
         yield ".TP"
         yield f"\\fB{status['number']}\\fR"
         yield from sentences(status["text"])
+
+
+def _rules() -> Iterator[str]:
+    for rule in rules():
+        yield ".TP"
+        yield f"\\fB{rule.word}\\fR {_marked(rule.broken)}"
+        yield from sentences(rule.text)
+
+
+def environment(manual: Manual, names: Iterable[str]) -> Iterator[str]:
+    """The section on the variables that a program reads; empty if it reads none."""
+    for number, name in enumerate(names):
+        yield from [".SH ENVIRONMENT"] * (number == 0)
+        yield ".TP"
+        yield f"\\fB{name}\\fR"
+        yield from sentences(manual.variables[name])
+
+
+def see_also(names: Iterable[str]) -> list[str]:
+    """The last section, which names other pages."""
+    first, *others = [f".BR {plain(name)} (1)" for name in names][::-1]
+    return [".SH SEE ALSO", *(f"{name}," for name in others[::-1]), first]
 
 
 def _examples(examples: Iterable[dict[str, str]]) -> Iterator[str]:

@@ -68,6 +68,11 @@ class Manual:
         """The part of the source on each tool in Python, by name."""
         return {one["name"]: one for one in self.source["tool"]}
 
+    @cached_property
+    def variables(self) -> dict[str, str]:
+        """What each variable of the environment means, by name."""
+        return {one["name"]: one["text"] for one in self.source["variable"]}
+
     def usage(self) -> str:
         """The usage text of `abi`."""
         lines = [f"abi {command.usage}" for command in self.commands]

@@ -8,7 +8,7 @@ import subprocess
 from pathlib import Path
 from typing import Iterable, Iterator
 
-from abi_manual.manual_pages import head, paragraphs, plain, sentences, words
+from abi_manual.manual_pages import environment, head, paragraphs, plain, see_also, sentences, words
 from abi_manual.sources import Manual
 
 _TOOLS = Path(__file__).resolve().parents[1]
@@ -32,7 +32,8 @@ def tool_page(manual: Manual, name: str) -> str:
         ".SH DESCRIPTION", *paragraphs("\n\n".join(" ".join(one.split()) for one in description if one.strip())),
         ".SH OPTIONS", *_entries(parts[_OPTIONS]),
         ".SH EXIT STATUS", *_entries(parts[_STATUSES]),
-        ".SH SEE ALSO", *(f".BR {plain(other)} (1)," for other in tool["see"][:-1]), f".BR {plain(tool['see'][-1])} (1)",
+        *environment(manual, tool["environment"]),
+        *see_also(tool["see"]),
     ]
     return "\n".join(lines) + "\n"
 

@@ -20,9 +20,9 @@ _DESCRIPTION = (
     "The tools around it judge packages and releases, write reports, and stop builds whose library may not replace the released one.",
 )
 # What single tools need: abi-packages reads packages, abi-report writes pages and shows progress, and abi-release works side by side.
-_RECOMMENDED = ("python3-zstandard", "python3-debian", "python3-jinja2", "python3-rich")
-_BSDTAR = {"debian": "libarchive-tools", "rpm": "bsdtar"}
-_SUGGESTED = ("python3-distributed",)
+# Debian and Fedora have them by the same names.
+_RECOMMENDED = ("python3-libarchive-c", "python3-zstandard", "python3-debian", "python3-jinja2", "python3-rich")
+_SUGGESTED = ("python3-distributed", "python3-cryptography")
 # Python's modules are compiled at installation, since users may not write there. The tools also run without.
 _POSTINST = """\
 #!/bin/sh
@@ -42,13 +42,13 @@ fi
 
 def abi_for_debian(needs: Needs) -> Package:
     """The package `abi` of Debian."""
-    return Package("abi", "amd64", [*needs.debian(), "python3"], [*_RECOMMENDED, _BSDTAR["debian"]], _SUGGESTED, (), _DESCRIPTION,
+    return Package("abi", "amd64", [*needs.debian(), "python3"], _RECOMMENDED, _SUGGESTED, (), _DESCRIPTION,
                    (("postinst", _POSTINST), ("prerm", _PRERM)))
 
 
 def abi_for_rpm(needs: Needs) -> Package:
     """The package `abi` of RPM."""
-    return Package("abi", "x86_64", [*needs.rpm(), "/usr/bin/python3"], [*_RECOMMENDED, _BSDTAR["rpm"]], _SUGGESTED, (), _DESCRIPTION)
+    return Package("abi", "x86_64", [*needs.rpm(), "/usr/bin/python3"], _RECOMMENDED, _SUGGESTED, (), _DESCRIPTION)
 
 
 def dh_abi(version: str) -> Package:

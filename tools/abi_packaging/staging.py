@@ -13,6 +13,10 @@ from abi_tools.faults import Fault
 
 PROGRAMS = ("abi", "abi-json")
 _TOOLS = Path("lib/abi/tools")
+_MACROS = Path("lib/rpm/macros.d/macros.abi")
+# The pages, schemas and recipes, which lie to each other as in the sources. The licence has a name of its own in packages.
+_DOCUMENTS = Path("share/doc/abi")
+_PAGES = ("README.md", "CHANGELOG.md", "docs", "examples")
 _EXECUTABLE, _PLAIN = 0o755, 0o644
 
 
@@ -41,10 +45,19 @@ class Installation:
             _same(path, self.sources / "tools" / path.relative_to(self.prefix / _TOOLS))
         for path in _files(self.sources / "share"):
             _same(self.prefix / "share" / path.relative_to(self.sources / "share"), path)
+        for path in self.pages():
+            _same(path, self.sources / path.relative_to(self.prefix / _DOCUMENTS))
+        _same(self.prefix / _MACROS, self.sources / "tools/rpm/macros.abi")
+
+    def pages(self) -> list[Path]:
+        """The pages, schemas and recipes."""
+        return [path for name in _PAGES for path in _files(self.prefix / _DOCUMENTS / name)]
 
 
 def _files(folder: Path) -> Iterator[Path]:
-    """The files below a folder, in order, without what Python compiled."""
+    """The files below a folder, in order, without what Python compiled; or the file itself."""
+    if folder.is_file():
+        return iter((folder,))
     return (path for path in sorted(folder.rglob("*")) if path.is_file() and "__pycache__" not in path.parts)
 
 
@@ -66,9 +79,9 @@ def stage(installation: Installation, top: Path) -> None:
     share = installation.sources / "share"
     for path in _files(share):
         place_page(path.read_bytes(), top / "share" / path.relative_to(share))
-    macros = installation.sources / "tools/rpm/macros.abi"
-    if macros.is_file():
-        place(macros.read_bytes(), top / "lib/rpm/macros.d/macros.abi")
+    for path in installation.pages():
+        place(path.read_bytes(), top / path.relative_to(installation.prefix), _EXECUTABLE if os.access(path, os.X_OK) else _PLAIN)
+    place((installation.prefix / _MACROS).read_bytes(), top / _MACROS)
 
 
 def place(contents: bytes, path: Path, mode: int = _PLAIN) -> None:
