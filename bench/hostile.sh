@@ -4,7 +4,7 @@
 # processor time for both sizes (the least of three runs; with RUNS=1 of one), their ratio for twice the bytes, the peak memory for the
 # larger size, the most bytes of memory for a byte of the files, how the runs ended, and for status 4 the words of the limit that the
 # program names. The last column names the bounds that a kind exceeds: growth, more than 2.5 times the time for twice the file; time,
-# more than 10 seconds a megabyte plus 0.2; memory, more than 64 bytes a byte plus 10 MB; status, an end that judges nothing, such as a
+# more than 10 seconds a megabyte plus 0.25; memory, more than 64 bytes a byte plus 100 MB; status, an end that judges nothing, such as a
 # signal. Ends with status 1 if a kind exceeds one.
 #
 # usage: bench/hostile.sh [ABI [KIND..]]   (default: the program that `rt run` built in crates/abi_cli/out, and all kinds)

@@ -1,6 +1,7 @@
-"""Opens a page in headless Chromium, measures how long that takes, and keeps pictures of it.
+"""Opens a page in headless Chromium, measures how long that takes, and keeps pictures of it; or prints it.
 
 usage: /usr/bin/python3 bench/page.py PAGE [FOLDER]
+       /usr/bin/python3 bench/page.py --print PAGE PDF
 
 Opens a page of `tools/abi-report` or `tools/abi-release` three times, each time in a new browser, and prints the seconds from the call
 that opens it to its event `load`, and to the paint of the next frame. FOLDER gets pictures at two widths, light and dark: the top of the
@@ -11,6 +12,7 @@ from __future__ import annotations
 
 import asyncio
 import base64
+import contextlib
 import itertools
 import json
 import subprocess
@@ -18,11 +20,14 @@ import sys
 import tempfile
 import time
 from pathlib import Path
-from typing import Any, Optional
+from typing import Any, AsyncIterator, Optional
 
 from tornado.websocket import WebSocketClientConnection, websocket_connect
 
 _RUNS = 3
+# How many tenths of a second the browser may take to start, and how many bytes one answer with a part of a PDF has.
+_STARTS_IN = 3000
+_PIECE = 1 << 20
 _BROWSER = ["chromium", "--headless", "--no-sandbox", "--disable-gpu", "--no-first-run", "--remote-debugging-port=0",
             "--window-size=1400,900", "about:blank"]
 # After two frames the layout has been painted.
@@ -119,30 +124,49 @@ async def _scheme(browser: Browser, folder: Path, name: str) -> None:
     await browser.picture(folder / f"end_{name}.png")
 
 
-async def run(page: Path, folder: Optional[Path]) -> tuple[float, float]:
-    """Opens the page in a new browser."""
-    with tempfile.TemporaryDirectory(prefix="page-") as profile:
+@contextlib.asynccontextmanager
+async def started() -> AsyncIterator[Browser]:
+    """A page of a new browser."""
+    with tempfile.TemporaryDirectory(prefix="page-", ignore_cleanup_errors=True) as profile:
+        port = Path(profile, "DevToolsActivePort")
         with subprocess.Popen([*_BROWSER[:-1], f"--user-data-dir={profile}", _BROWSER[-1]], stdin=subprocess.DEVNULL,
                               stdout=subprocess.DEVNULL, stderr=subprocess.DEVNULL) as process:
             try:
-                browser = Browser(await websocket_connect(await _address(Path(profile, "DevToolsActivePort")), max_message_size=1 << 28))
+                browser = Browser(await websocket_connect(await _address(port), max_message_size=1 << 28))
                 target = (await browser.call("Target.getTargets"))["targetInfos"]
                 place = next(one["targetId"] for one in target if one["type"] == "page")
-                browser = Browser(await websocket_connect(f"{await _origin(Path(profile, 'DevToolsActivePort'))}/devtools/page/{place}",
-                                                          max_message_size=1 << 28))
-                times = await opened(browser, page)
-                rows = await browser.value(_ROWS)
-                print(f"loaded after {times[0]:.2f} s, painted after {times[1]:.2f} s; rows that are laid out: {rows}")
-                if folder is not None:
-                    await pictures(browser, folder)
+                yield Browser(await websocket_connect(f"{await _origin(port)}/devtools/page/{place}", max_message_size=1 << 28))
             finally:
                 process.terminate()
+
+
+async def run(page: Path, folder: Optional[Path]) -> tuple[float, float]:
+    """Opens the page in a new browser."""
+    async with started() as browser:
+        times = await opened(browser, page)
+        rows = await browser.value(_ROWS)
+        print(f"loaded after {times[0]:.2f} s, painted after {times[1]:.2f} s; rows that are laid out: {rows}")
+        if folder is not None:
+            await pictures(browser, folder)
     return times
+
+
+async def printed(page: Path, pdf: Path) -> None:
+    """Prints the page to a file, in pieces: the browser sends no answer of many megabytes."""
+    async with started() as browser:
+        await opened(browser, page)
+        answer = await browser.call("Page.printToPDF", transferMode="ReturnAsStream")
+        with pdf.open("wb") as output:
+            is_ended = False
+            while not is_ended:
+                piece = await browser.call("IO.read", handle=answer["stream"], size=_PIECE)
+                output.write(base64.b64decode(piece["data"]) if piece.get("base64Encoded") else piece["data"].encode())
+                is_ended = piece["eof"]
 
 
 async def _lines(port: Path) -> list[str]:
     """Waits for the lines in which the browser writes its port."""
-    for _ in range(600):
+    for _ in range(_STARTS_IN):
         if port.exists() and len(port.read_text().splitlines()) == 2:
             return port.read_text().splitlines()
         await asyncio.sleep(0.1)
@@ -159,8 +183,11 @@ async def _address(port: Path) -> str:
 
 def main() -> int:
     """Opens the page as the arguments say."""
+    if len(sys.argv) == 4 and sys.argv[1] == "--print":
+        asyncio.run(printed(Path(sys.argv[2]).resolve(), Path(sys.argv[3])))
+        return 0
     if len(sys.argv) not in (2, 3):
-        print("usage: /usr/bin/python3 bench/page.py PAGE [FOLDER]", file=sys.stderr)
+        print("usage: /usr/bin/python3 bench/page.py PAGE [FOLDER], or --print PAGE PDF", file=sys.stderr)
         return 64
     page = Path(sys.argv[1]).resolve()
     folder = Path(sys.argv[2]) if len(sys.argv) == 3 else None

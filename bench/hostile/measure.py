@@ -12,15 +12,15 @@ from .cases import Case
 MOST_MEMORY = 8_000_000_000
 MOST_SECONDS = 120
 # The bounds for a generated file: how many times the seconds of half the file it may take, and how many bytes of memory for each of its
-# bytes, besides some for the program itself.
+# bytes. No limit is met below 64 MB and a quarter of a second of work, whatever the size of the file, and a list that grows may have half
+# as much to spare: a small file may take that much.
 MOST_GROWTH = 2.5
 BYTES_A_BYTE = 64
-BYTES_BESIDE = 10_000_000
-# Besides, no small file may take long.
+BYTES_BESIDE = 100_000_000
 SECONDS_A_MEGABYTE = 10
-SECONDS_BESIDE = 0.2
-# Shorter runs do not show how the time grows.
-SHORT = 0.08
+SECONDS_BESIDE = 0.25
+# Shorter runs do not show how the time grows: a limit may end the larger one.
+SHORT = 0.25
 # Yes or accepted, no or refused, unreadable, and out of memory. Another status says that the program did not judge the files.
 JUDGED = ("0", "1", "2", "4")
 

@@ -1,0 +1,50 @@
+#!/usr/bin/env bash
+# What TLS costs a release: judges two releases of small packages with `tools/abi-release`, in turn with TLS between its processes, as
+# always, and without, which only this script can do. Prints the processor time of each run, of all its processes, and the ratio of the
+# least ones.
+#
+# usage: bench/release_tls.sh [ABI [PAIRS [WORKERS [TIMES]]]]     (default: the program that `rt run` built, 30000 pairs, 4 workers, once)
+set -eu
+. "$(dirname "$0")/common.bash" "$@"
+pairs=${2:-30000} workers=${3:-4} times=${4:-1}
+folder=$PWD/release
+mkdir -p "$folder"
+rm -rf "$folder/old" "$folder/new" "$folder"/out*
+/usr/bin/python3 "$top/bench/made_release.py" ${DISTINCT:+--distinct "$DISTINCT"} ${TRIAL_LIBRARY:+--maker "$TRIAL_LIBRARY"} \
+    "$folder" "$pairs"
+
+# The same tool, with plain TCP between its processes.
+cat >"$folder/plain.py" <<END
+import sys
+sys.dont_write_bytecode = True
+sys.path.insert(0, "$top/tools")
+from abi_tools.starting import start
+if __name__ == "__main__":
+    from abi_release import clusters
+    clusters.PROTOCOL = "tcp://"
+    clusters.Security.temporary = classmethod(lambda cls: cls())
+    sys.exit(start("abi-release", "command", fault_status=2, package="abi_release"))
+END
+
+# judge KIND COMMAND..: does a run, and appends its processor time to the file KIND.
+judge() {
+    local ended=0 kind=$1 digest
+    shift
+    rm -rf "$folder/out"
+    ABI=$abi /usr/bin/time -o took -f '%U %S' "$@" "$folder/old" "$folder/new" --out "$folder/out" --workers "$workers" >said 2>errors ||
+        ended=$?
+    [ "$ended" -le 1 ] || failed abi-release, with status "$ended"
+    awk 'END { print $1 + $2 }' took >>"$kind"
+    digest=$(sed -n 's/^.*"digest": "\([0-9a-f]\{12\}\)[0-9a-f]*"}$/\1/p' "$folder/out/release.json" | tail -n 1)
+    echo "| $pairs | $kind | $(tail -n 1 "$kind") s | $digest |"
+}
+
+rm -f tls plain
+echo "| Pairs of packages | Between processes | Processor time | Digest |"
+echo "|---|---|---|---|"
+for _ in $(seq "$times"); do
+    judge tls "$top/tools/abi-release"
+    judge plain /usr/bin/python3 "$folder/plain.py"
+done
+echo "with TLS: $(sort -g tls | head -n 1) s, without: $(sort -g plain | head -n 1) s, ratio $(
+    awk 'NR == FNR { tls = $1; next } { printf "%.2f", tls / $1 }' <(sort -g tls | head -n 1) <(sort -g plain | head -n 1))"
