@@ -12,7 +12,6 @@ A log has one line of JSON for each process. A crate that an earlier run proved 
 from __future__ import annotations
 
 import json
-import re
 import subprocess
 import sys
 import time
@@ -164,7 +163,8 @@ def compare(log: Path) -> int:
 def keep(log: Path) -> None:
     """Writes the table that is kept."""
     rows = sorted((name, sum(row.values())) for name, row in minutes_by_crate(read_log(log)).items())
-    KEPT.write_text("# crate, minutes of processor time in a gate from nothing\n" + "".join(f"{name}\t{minutes:.1f}\n" for name, minutes in rows), encoding="utf-8")
+    lines = "".join(f"{name}\t{minutes:.1f}\n" for name, minutes in rows)
+    KEPT.write_text(f"# crate, minutes of processor time in a gate from nothing\n{lines}", encoding="utf-8")
 
 
 def main(words: list[str]) -> int:

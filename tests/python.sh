@@ -7,7 +7,7 @@
 set -eu
 title="packages and recipes"
 tools="/usr/bin/python3 gcc clang readelf objcopy ar strip dwz eu-unstrip eu-elflint dpkg-deb bsdtar make prlimit /usr/bin/time
-    dask-scheduler dask-worker jq groff mypy rpm2cpio"
+    dask-scheduler dask-worker jq groff mypy flake8 rpm2cpio"
 crate=abi_cli
 . "$(dirname "$0")/common.bash"
 
@@ -19,6 +19,7 @@ for module in elftools debian libarchive zstandard yaml pytest xdist distributed
 done
 
 (cd "$root" && mypy) >types.log 2>&1 || { tail -n 20 types.log >&2 && fail "the types of the tools"; }
+(cd "$root" && flake8 tools tests bench) >style.log 2>&1 || { tail -n 20 style.log >&2 && fail "the style of the tools"; }
 
 program_of abi_json 64 "${ABI_JSON:-}"
 ABI=$program ABI_JSON=$found /usr/bin/python3 -B -m pytest --quiet --color=no -p no:cacheprovider -rs --numprocesses="$(nproc)" --dist=loadfile \

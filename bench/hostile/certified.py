@@ -3,8 +3,7 @@
 from hashlib import sha256
 
 from .cases import Case, Kind
-from .dwarf import FREE, STRUCT, Info
-from .elf import SHT_PROGBITS, Section, Symbol, image, symbol_sections
+from .dwarf import STRUCT, Info
 from .encode import short_name, u32
 from .library import library
 

@@ -44,7 +44,7 @@ from .dwarf import (
     Info,
     table,
 )
-from .encode import short_name, u8, u16, u32, u64, uleb
+from .encode import u8, u16, u32, u64, uleb
 from .library import addresses, library
 
 ROOT = Abbreviation(UNIT, COMPILE_UNIT, True, ((AT_LANGUAGE, DATA1),))

@@ -6,8 +6,8 @@ Tries the inputs with the numbers FIRST, FIRST + STEP and so on below COUNT, und
 that is 0. A process answers one command after the other, since AGAIN, the library that again.c makes, is loaded into it. For one of
 499 inputs, each command is also answered by a process of its own. With an empty AGAIN, every command is.
 
-CORPUS is the folder in which corpus.py made the sound files. The files of an input that shows a fault are kept in the folder FOUND. The last line says how many
-inputs were tried, in how many runs of the program, and how many answers were wrong.
+CORPUS is the folder in which corpus.py made the sound files. The files of an input that shows a fault are kept in the folder FOUND. The
+last line says how many inputs were tried, in how many runs of the program, and how many answers were wrong.
 """
 
 import shutil

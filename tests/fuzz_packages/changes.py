@@ -16,7 +16,8 @@ from fuzz_packages.corpus import LIBRARY, Corpus, Member, control, cpio, deb, rp
 _USUAL = (LIBRARY, f"./{LIBRARY}", f"/{LIBRARY}", "usr/lib/libfuzz.so", "usr/lib/a/libfuzz.so.1", "usr/lib/a", "usr/lib64",
           "usr/lib64/libfuzz.so.1", "lib/libfuzz.so.1", "lib", "usr/lib/x86_64-linux-gnu/libfuzz.so.1",
           "usr/lib/glibc-hwcaps/x86-64-v3/libfuzz.so.1", "usr/share/doc/p/abi.rules", "usr/share/doc/p", "usr/bin/p", "a", "b")
-_NAMES = (f"usr//lib/./{LIBRARY[8:]}", "usr/lib", "usr", "../escaped", "usr/../../escaped", "a", "b", "", ".", "usr/lib/\udcff\n\x1b[2J.so", "d/" * 200 + "x", "n" * 300, "n" * 5000)
+_NAMES = (f"usr//lib/./{LIBRARY[8:]}", "usr/lib", "usr", "../escaped", "usr/../../escaped", "a", "b", "", ".",
+          "usr/lib/\udcff\n\x1b[2J.so", "d/" * 200 + "x", "n" * 300, "n" * 5000)
 _TARGETS = (LIBRARY, "libfuzz.so.1", "usr/lib/a", "/usr/lib", "../lib64", "{canary}", "/../../{canary}", "{canary}/libfuzz.so.1", "a", "b", "",
             "/dev/zero", "/etc/passwd", "../" * 50 + "etc/passwd", "t" * 5000, "lib64", "usr/lib/libfuzz.so")
 _KINDS = (tarfile.REGTYPE, tarfile.REGTYPE, tarfile.DIRTYPE, tarfile.SYMTYPE, tarfile.SYMTYPE, tarfile.LNKTYPE, tarfile.FIFOTYPE,

@@ -2,7 +2,7 @@
 
 from __future__ import annotations
 
-from .images import Image, Symbol
+from .images import Image
 from .programs import Runs
 from .spelled import library
 

@@ -28,7 +28,8 @@ def fuzzed(*arguments: str) -> "subprocess.CompletedProcess[str]":
     """Runs Python on the fuzzer. A shell starts it, since Linux counts the peak memory of the process that starts a program to the
     program, too, and that of the tests may be large."""
     needs("rpmbuild", "rpm2cpio", "bsdtar")
-    return subprocess.run(["sh", "-c", '"$@"; exit $?', "sh", sys.executable, "-B", *arguments], cwd=_TESTS, capture_output=True, text=True, check=False,
+    return subprocess.run(["sh", "-c", '"$@"; exit $?', "sh", sys.executable, "-B", *arguments], cwd=_TESTS,
+                          capture_output=True, text=True, check=False,
                           env={"PATH": "/usr/bin:/bin", "PYTHONPATH": f"{_TESTS}:{_TESTS.parent / 'tools'}", "ABI": "/bin/true"})
 
 

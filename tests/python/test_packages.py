@@ -13,6 +13,7 @@ import pytest
 from conftest import FIRST, SECOND, TOOLS, abi, build_id, done, needs, run, script, shared, split, system_place, tool
 from package_support import CHANGED, LIBRARIES, Build, Member, deb, hostile_deb, link, packages, parted, rpm
 
+
 @pytest.fixture
 def old(build: Build, tmp_path: Path) -> tuple[Path, Path]:
     """The old packages: one of a library, and one of its debug information."""

@@ -216,5 +216,3 @@ def test_what_another_run_left_in_the_place_of_a_record_is_not_read(tmp_path: Pa
     assert ended.status == 1 and answers(tmp_path)["lib0 -"] == "cannot tell", ended
     (tmp_path / "go").unlink()
     assert judged(release(tmp_path, wrapper=wrapper)) == (0, 3) and answers(tmp_path)["lib0 lib0.so.1"] == "no"
-
-

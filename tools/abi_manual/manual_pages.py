@@ -10,7 +10,8 @@ from abi_manual.rules_of_guide import rules
 from abi_manual.sources import Command, Manual
 
 _WIDTH = 76
-_OPTIONS = "Options may come anywhere among the arguments, each once, as `--rules` *FILE* or `--rules=`*FILE*. After the argument `--` there are none."
+_OPTIONS = ("Options may come anywhere among the arguments, each once, as `--rules` *FILE* or `--rules=`*FILE*. After the argument `--` there "
+            "are none.")
 _MARKED = re.compile(r"`([^`]*)`|\*([^*]*)\*")
 _RULES = "A line of a report begins with the rule that is broken. Exports have rules in X, and types in L."
 # The variables of the environment that the programs read.

@@ -22,7 +22,8 @@ _DESCRIPTION = """\
 Makes packages of an installation of `abi`: abi_VERSION_amd64.deb, dh-abi_VERSION_all.deb, abi-VERSION-1.x86_64.rpm and
 abi-VERSION-x86_64.tar.xz. The installation is what install.sh of these sources made below PREFIX. The packages have the programs, the
 tools, manual pages, completions, pages, licences of all that is linked in, and a record in share/doc/abi/record.json: the kit of the
-prover, the commit, and digests of the sources and the programs. Programs of `install.sh --static` run on any Linux for x86-64. The same files and the same SOURCE_DATE_EPOCH (by default the time of the commit) make the same bytes.
+prover, the commit, and digests of the sources and the programs. Programs of `install.sh --static` run on any Linux for x86-64. The same
+files and the same SOURCE_DATE_EPOCH (by default the time of the commit) make the same bytes.
 """
 _STATUSES = "Exit status: 0 made, and their names are printed; 2 not made, and a sentence says why; 64 wrong arguments."
 # The C library of Debian 11, the oldest release on which packages are to run.

@@ -36,8 +36,8 @@ class Page:
         self.report = report
         self._rows = 0
         self._names = 0
-        self._ways = Ways(report.old, [(block, (*block.exports[:_SEEN], *block.member_exports[:_SEEN])) for block in report.types
-                                      if not report.is_of_itself(block)])
+        seen = [(block, (*block.exports[:_SEEN], *block.member_exports[:_SEEN])) for block in report.types if not report.is_of_itself(block)]
+        self._ways = Ways(report.old, seen)
 
     def layouts(self, block: Block) -> Optional[Layouts]:
         """Both layouts of a block's structure, if the page still has room for them."""

@@ -237,4 +237,3 @@ def _location(member: Entry) -> int:
             total |= (byte & 0x7F) << 7 * place
         return total
     return value if isinstance(value, int) else 0
-

@@ -105,4 +105,3 @@ class Abi:
 def _export(line: str) -> Export:
     number, label, kind, size, said = line.split(" ", 4)
     return Export(int(number), label, kind, int(size), said)
-

@@ -13,7 +13,6 @@ from abi_tools.faults import Fault
 from abi_tools.limits import LARGEST_FILE
 from abi_tools.loader_views import LoaderView, header_of, loader_view
 from abi_tools.package_trees import File
-from abi_tools.shown import name_shown
 from abi_tools.unpacking import Package
 
 _SHARED = ".so"

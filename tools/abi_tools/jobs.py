@@ -191,4 +191,3 @@ def default_megabytes(processes: int) -> int:
     """The memory limit of a step if none is given: its share of half of the machine's memory, but at least 1 GB and at most 4 GB."""
     half = os.sysconf("SC_PHYS_PAGES") * _PAGE // (2 * _MEGABYTE)
     return max(1024, min(4096, half // max(processes, 1)))
-

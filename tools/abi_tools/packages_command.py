@@ -10,7 +10,7 @@ from collections import Counter
 from dataclasses import replace
 from functools import partial
 from pathlib import Path
-from typing import Callable, Iterable, Iterator, Optional, Sequence
+from typing import Callable, Iterator, Optional, Sequence
 
 from abi_tools.arguments import Arguments, ShowLimits, add_require_types, address, number_above_0
 from abi_tools.counting import counted
