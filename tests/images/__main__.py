@@ -50,15 +50,17 @@ def written(folder: Path, name: str, content: bytes | Filled) -> None:
             file.write(bytes([content.value]) * min(PIECE, content.length - start))
 
 
-def wrong_note(case: Case, status: int, said: str) -> bool:
-    """Whether standard error says too much or too little: it says what is wrong, has one note on a refusal, and may have notes on a yes
-    or no."""
+def wrong_note(case: Case, status: int, text: str, said: str) -> bool:
+    """Whether standard error says too much or too little: it says what is wrong, has one note on a refusal, and one more on a file that is
+    not the one of the certificate, and may have notes on a yes or no."""
     notes = said.splitlines()
     if not all(note.startswith("abi: ") for note in notes):
         return True
     if status in (2, 3, 4, 6, 64):
         return not notes
-    return len(notes) != 1 if status == 5 else bool(notes) and case.words[0] not in ("check", "app")
+    if status == 5:
+        return len(notes) != (2 if "70 OtherInput" in text else 1)
+    return bool(notes) and case.words[0] not in ("check", "app")
 
 
 def run(program: str, words: list[str], folder: str, settings: dict[str, str]) -> tuple[int, str, str]:
@@ -81,7 +83,7 @@ def judge(program: str, faulty: str, case: Case) -> None:
     got = f"{case.test}: {case.row}: status {status}:\n{text}\n{said}"
     if case.status not in (None, status) or case.text not in (None, text) or text == case.unlike:
         raise Wrong(f"{got}\nand not {case.status}:\n{case.text}")
-    if wrong_note(case, status, said):
+    if wrong_note(case, status, text, said):
         raise Wrong(f"{got}\nwhich is not the right number of notes")
 
 
