@@ -192,7 +192,8 @@ def check_sarif(document: dict[str, Any], breaks: int, source: Path) -> None:
     named = [result["ruleId"] for result in one["results"]]
     assert named.count("gone") == 1 and named.count("cannot-tell") == 1 and len(named) == breaks + 2
     place = one["results"][0]["locations"][0]["physicalLocation"]
-    assert place == {"artifactLocation": {"uri": f"file://{source}"}, "region": {"startLine": 1}}
+    uri = str(source.relative_to(Path.cwd())) if source.is_relative_to(Path.cwd()) else f"file://{source}"
+    assert place == {"artifactLocation": {"uri": uri}, "region": {"startLine": 1}}
     (invocation,) = one["invocations"]
     assert invocation["exitCode"] == 1 and invocation["executionSuccessful"] is False
     assert all(told["message"]["text"] for told in invocation["toolExecutionNotifications"])

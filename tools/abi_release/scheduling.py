@@ -298,6 +298,11 @@ class _Turn:
             except (KilledWorker, CancelledError) as ended:
                 # If the worker that holds the result dies, Dask does the batch again, and that may fail.
                 error = ended
+            except (TypeError, ValueError) as ended:
+                # Dask takes the result for an exception if the future is cancelled, or fails, after the result came.
+                if future.status == "finished":
+                    raise
+                raise _Lost("the scheduler is gone") from ended
         if isinstance(error, KilledWorker):
             worker = str(getattr(error.last_worker, "address", ""))
             return [self._run.died(task, worker) for task in batch]
