@@ -309,6 +309,27 @@ def test_a_supplementary_file_beside_a_debug_file_that_is_found_by_its_name(two:
     assert exports(joined) == exports(whole[0])
 
 
+# A section of a megabyte in a frame of zstd whose window has 128 MB, where 64 MB are left.
+WITHOUT_MEMORY = """\
+import resource, struct, zstandard
+from abi_tools.inflating import inflate
+plain = bytes(1 << 20)
+machine = zstandard.ZstdCompressor(compression_params=zstandard.ZstdCompressionParameters.from_level(1, window_log=27)).compressobj()
+contents = struct.pack("<IIQQ", 2, 0, len(plain), 1) + machine.compress(plain) + machine.flush()
+assert inflate(contents, "it") == plain
+taken = int(open("/proc/self/statm").read().split()[0]) * resource.getpagesize()
+resource.setrlimit(resource.RLIMIT_AS, (taken + (64 << 20), -1))
+try:
+    inflate(contents, "it")
+except Exception as error:
+    print(type(error).__name__)
+"""
+
+
+def test_a_decompressor_without_memory_says_nothing_of_the_section() -> None:
+    assert done("env", f"PYTHONPATH={TOOLS}", "/usr/bin/python3", "-B", "-c", WITHOUT_MEMORY) == "MemoryError\n"
+
+
 @pytest.mark.parametrize("compression", ("zlib", "zstd"))
 def test_compressed_debug_and_supplementary_files_are_inflated(build: Build, tmp_path: Path, compression: str) -> None:
     many = "".join(f"int many_functions_{one}(struct shape *s) {{ return s->at->x; }}\n" for one in range(60))

@@ -4,6 +4,7 @@ from __future__ import annotations
 
 import ctypes
 import enum
+import errno
 import logging
 import stat
 from typing import Iterator, NamedTuple, Optional
@@ -122,6 +123,8 @@ class Archive:
         except ArchiveError as error:
             if self._failed is not None:
                 raise self._failed from error
+            if error.errno == errno.ENOMEM:
+                raise MemoryError from error
             raise Fault(f"{self._file} is damaged: {error.msg or 'it is no archive'}") from error
         if result < 0:
             raise Fault(f"{self._file} is damaged: {_text(ffi.error_string(arguments[0]))}")

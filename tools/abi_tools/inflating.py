@@ -16,6 +16,8 @@ _ZSTD = 2
 # A `.zdebug_` section begins with these bytes, followed by its size in big endian.
 _OLD_MAGIC = b"ZLIB"
 _OLD_HEADER = struct.Struct(">4sQ")
+_NO_MEMORY_OF_ZLIB = "Error -4 "
+_NO_MEMORY_OF_ZSTD = "Allocation error"
 
 
 def inflate(contents: bytes, where: str) -> bytes:
@@ -49,10 +51,17 @@ def _inflated(kind: int, packed: bytes, size: int, where: str) -> bytes:
     return plain
 
 
+def check_memory(error: Exception) -> None:
+    """Raises MemoryError if that is why a decompressor failed: zlib (Z_MEM_ERROR) and zstd raise their own errors, those of damaged bytes."""
+    if str(error).startswith(_NO_MEMORY_OF_ZLIB) or _NO_MEMORY_OF_ZSTD in str(error):
+        raise MemoryError from error
+
+
 def _inflated_zlib(packed: bytes, size: int, where: str) -> bytes:
     try:
         return zlib.decompressobj().decompress(packed, size + 1)
     except zlib.error as error:
+        check_memory(error)
         raise Fault(f"{where} cannot be inflated: {error}") from error
 
 
@@ -63,4 +72,5 @@ def _inflated_zstd(packed: bytes, size: int, where: str) -> bytes:
     try:
         return bytes(zstandard.ZstdDecompressor().stream_reader(packed).read(size + 1))
     except zstandard.ZstdError as error:
+        check_memory(error)
         raise Fault(f"{where} cannot be inflated: {error}") from error

@@ -8,6 +8,7 @@ import zlib
 from typing import Iterator, Union
 
 from abi_tools.faults import Fault
+from abi_tools.inflating import check_memory
 from abi_tools.limits import LARGEST_INFLATED, LARGEST_WINDOW
 
 # How many bytes are read or inflated at once.
@@ -33,6 +34,7 @@ def inflated(packed: Iterator[bytes], way: str, file: object) -> Iterator[bytes]
             if piece:
                 yield piece
     except _DAMAGED as error:
+        check_memory(error)
         raise Fault(f"{file} is damaged: {error}") from error
 
 
