@@ -28,10 +28,12 @@ from abi_release.scheduling import Given, Run, _Turn, done_in_turn
 from abi_release.small_packages import SmallPackage, small_side
 from abi_release.sources import Work
 from abi_release.stored_files import Store
+from abi_tools.faults import Fault
 from abi_tools.package_sides import Side
 from conftest import ROOT, TOOLS, Ended, build_id, done, run, split, system_place
 from distributed import KilledWorker
-from release_support import (LIBRARIES, THREE, TOOL, answers, bundle, deb, judged, library, lines, packaged, release, results, started,
+from package_support import rpm
+from release_support import (LIBRARIES, THREE, TOOL, answers, bundle, compiled, deb, judged, library, lines, packaged, release, results, started,
                              stop, table, three, tree, unmeasured, wait_for, wrapper_of)
 from report_support import needs_json
 
@@ -256,6 +258,24 @@ def test_small_packages_are_read_as_all_are(tmp_path: Path, packing: str) -> Non
     assert [one.soname for one in in_memory.libraries] == [one.soname for one in on_disk.libraries] == ["lib0.so.1"]
     assert tree(tmp_path / "memory") == tree(tmp_path / "disk") != {}
     assert version_and_depends(path, small.control) == version_and_depends(path) == ("1", ["libc6"])
+
+
+def test_what_a_package_needs_is_read_without_programs(tmp_path: Path, monkeypatch: pytest.MonkeyPatch) -> None:
+    """The programs of a machine would decide what is kept."""
+    first = compiled(tmp_path, "libfirst.so.1", "int first(void) { return 1; }\n", "-shared", "-fPIC", "-Wl,-soname,libfirst.so.1")
+    second = compiled(tmp_path, "libsecond.so.1", "int first(void);\nint second(void) { return first(); }\n", "-shared", "-fPIC", first)
+    made = rpm(tmp_path, "second", {"usr/lib64/libsecond.so.1": second})
+    version, *names = done("rpm", "-qp", "--nosignature", "--qf", r"%{VERSION}-%{RELEASE}\n[%{REQUIRES}\n]", made).splitlines()
+    assert "libfirst.so.1()(64bit)" in names
+    packed = deb(tmp_path, "packed", {f"{LIBRARIES}/libfirst.so.1": first}, version="3", depends="libc6", packing="zstd")
+    monkeypatch.setenv("PATH", "")
+    assert version_and_depends(made) == (version, sorted(set(names)))
+    assert version_and_depends(packed) == ("3", ["libc6"])
+    whole = made.read_bytes()
+    for size in (0, 90, 200, 3000):
+        made.write_bytes(whole[:size])
+        with pytest.raises(Fault, match="is damaged"):
+            version_and_depends(made)
 
 
 @pytest.mark.parametrize("packing", ["gzip", "xz", "zstd"])

@@ -2,14 +2,13 @@
 
 from __future__ import annotations
 
-import subprocess
 from pathlib import Path
 from typing import Iterable, Iterator, Mapping, Optional
 
-from debian.arfile import ArError
 from debian.deb822 import Deb822, PkgRelation
-from debian.debfile import DebError, DebFile
 
+from abi_tools import rpm_files
+from abi_tools.deb_control import control_text
 from abi_tools.debug_files import DEBUG_FOLDER
 from abi_tools.elf_files import ElfFile
 from abi_tools.faults import Fault
@@ -24,19 +23,17 @@ Imports = dict[str, list[str]]
 
 
 def version_and_depends(package: Path, control: Optional[bytes] = None) -> tuple[str, list[str]]:
-    """The version of a package, and all names of packages in its `Depends` and `Pre-Depends`; both empty for an unpacked tree. A caller
-    that already has the text of the control file passes it. Raises a fault if the package is damaged."""
-    if control is not None:
-        return _of_control(Deb822(control))
-    if package.is_dir():
+    """The version of a package, and all names of packages in its `Depends` and `Pre-Depends`, or of all that a .rpm requires; both empty
+    for an unpacked tree. A caller that already has the text of the control file passes it. Raises a fault if the package is damaged."""
+    if control is None and package.is_dir():
         return "", []
     if package.suffix == ".rpm":
-        return _of_rpm(package)
-    try:
-        with DebFile(filename=str(package)) as file:
-            return _of_control(file.debcontrol())
-    except (ArError, DebError, OSError, ValueError, EOFError) as error:
-        raise Fault(f"{package.name} is damaged: {error}") from error
+        with package.open("rb") as stream:
+            return rpm_files.version_and_requires(stream, package)
+    text = control_text(package) if control is None else control
+    if text is None:
+        raise Fault(f"{package} is damaged: it has no control file")
+    return _of_control(Deb822(text))
 
 
 def _of_control(control: Deb822) -> tuple[str, list[str]]:
@@ -45,17 +42,6 @@ def _of_control(control: Deb822) -> tuple[str, list[str]]:
         for alternatives in PkgRelation.parse_relations(relations) if relations else ():
             names |= {one["name"] for one in alternatives if one["name"]}
     return str(control.get("Version", "")), sorted(names)
-
-
-def _of_rpm(package: Path) -> tuple[str, list[str]]:
-    """The same of a .rpm, if the program `rpm` is installed. A .rpm requires names of packages and of libraries."""
-    try:
-        ended = subprocess.run(["rpm", "-qp", "--nosignature", "--qf", r"%{VERSION}-%{RELEASE}\n[%{REQUIRES}\n]", str(package)],
-                               stdin=subprocess.DEVNULL, capture_output=True, text=True, errors="replace", check=False)
-    except FileNotFoundError:
-        return "", []
-    lines = ended.stdout.splitlines() if ended.returncode == 0 else []
-    return (lines[0], sorted({line for line in lines[1:] if line})) if lines else ("", [])
 
 
 def imports(files: Iterable[Path]) -> Imports:

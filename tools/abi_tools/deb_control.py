@@ -60,19 +60,23 @@ def about(file: Path) -> About:
     # Imported here, since only some commands need it.
     from debian.deb822 import Deb822
 
-    with file.open("rb") as stream:
-        if stream.read(len(deb_files.MAGIC)) != deb_files.MAGIC:
-            raise Fault(f"{file} is no .deb")
-        stream.seek(0)
-        text = _control(Archive(deb_files.control_of(stream, file), "tar", file))
+    text = control_text(file)
     found = None if text is None else about_fields(Deb822(text.decode("utf-8", "surrogateescape")))
     if found is None:
         raise Fault(f"{name_shown(str(file))} does not say its name, its version and its architecture as a .deb should")
     return found
 
 
+def control_text(file: Path) -> Optional[bytes]:
+    """The control file of a .deb; None if there is none. Raises a fault if the package is damaged."""
+    with file.open("rb") as stream:
+        if stream.read(len(deb_files.MAGIC)) != deb_files.MAGIC:
+            raise Fault(f"{file} is no .deb")
+        stream.seek(0)
+        return _control(Archive(deb_files.control_of(stream, file), "tar", file))
+
+
 def _control(archive: Archive) -> Optional[bytes]:
-    """The control file; None if there is none."""
     for member in _files(archive):
         if member.removeprefix("./") == "control":
             return archive.read(_LARGEST)
