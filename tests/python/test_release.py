@@ -528,15 +528,19 @@ def test_libraries_that_ask_for_gigabytes_cost_a_line_each(tmp_path: Path) -> No
 
 
 def test_abi_that_gives_no_answer_is_told_as_what_it_was(tmp_path: Path) -> None:
-    """Memory ran out under the limit, a signal ended it, and it ended with a status that it does not have."""
+    """Memory ran out under the limit, a signal ended it, it ended with a status that it does not have, and a count would pass a limit."""
     three(tmp_path)
-    ways = {"lib0": "echo 'out of memory' >&2; exit 4", "lib1": "kill -9 $$", "lib2": "exit 1"}
+    for side in ("old", "new"):
+        packaged(tmp_path / side, library(tmp_path, "lib3.so.1"))
+    ways = {"lib0": "echo 'abi: out of memory' >&2; exit 4", "lib1": "kill -9 $$", "lib2": "exit 1",
+            "lib3": "echo 'abi: past the limit on pairs of types (LIMITS in abi(1))' >&2; exit 4"}
     text = " ".join(f"*{name}.so.1*) {way} ;;" for name, way in ways.items())
     ended = release(tmp_path, "--memory", 900, "--tries", 1, wrapper=wrapper_of(tmp_path, f"case \"$judged\" in {text} esac"))
     assert ended.status == 2 and {line["answer"] for line in lines(tmp_path).values()} == {"cannot tell"}, ended
     assert [line["reason"] for line in lines(tmp_path).values()] == [
         "abi ran out of memory under its limit of 900 MB",
-        "abi gave no answer: the signal SIGKILL ended it: perhaps the machine ran out of memory", "abi ended with status 1"]
+        "abi gave no answer: the signal SIGKILL ended it: perhaps the machine ran out of memory", "abi ended with status 1",
+        "past the limit on pairs of types (LIMITS in abi(1))"]
 
 
 def test_what_cannot_be_printed_is_no_answer(tmp_path: Path) -> None:

@@ -3,6 +3,7 @@
 from __future__ import annotations
 
 import argparse
+import contextlib
 import os
 import resource
 import select
@@ -24,10 +25,12 @@ _MEGABYTE = 1 << 20
 # How many bytes `abi` may print.
 _LONGEST_TEXT = 1 << 29
 # The exit status for a fault of the inputs, all those that say something about them (yes or done, no, and a fault), and the one for
-# memory that ran out.
+# memory that ran out, or a limit.
 FAULT = 2
 _TOLD = (0, 1, FAULT)
 _NO_MEMORY = 4
+# How the sentence begins if not memory ran out, but a count of `abi` would pass a limit.
+_PAST_A_LIMIT = "past the limit on "
 # How many seconds by the clock a second of processor time may take, unless the caller says otherwise.
 CLOCK = 10
 # The largest number that a limit on the command line may have: the system counts bytes and microseconds in 64 bits.
@@ -126,16 +129,21 @@ class LimitedAbi(Abi):
             with subprocess.Popen(command, stdin=_LIFE.fileno(), stdout=out, stderr=errors, cwd=self.folder,
                                   start_new_session=True, pass_fds=[took.fileno()]) as process:
                 status = self._waited(process)
+            if status != 0:
+                self._end_group(process.pid)
             text, notes, said = (_contents(file) for file in files)
         finally:
             for file in files:
                 os.ftruncate(file.fileno(), 0)
                 os.lseek(file.fileno(), 0, os.SEEK_SET)
-        if status == -signal.SIGKILL:
-            # A process that is still writing must not write to the files of the next run.
-            del _FILES[os.getpid(), threading.get_ident(), self.folder]
         self._take(said.split())
         return _parted(mark, status, text, notes)
+
+    def _end_group(self, group: int) -> None:
+        """Ends what a run that did not end by itself has left: it must not write to the files of the next run."""
+        with contextlib.suppress(ProcessLookupError):
+            os.killpg(group, signal.SIGKILL)
+        _FILES.pop((os.getpid(), threading.get_ident(), self.folder), None)
 
     def _waited(self, process: subprocess.Popen[bytes]) -> int:
         """The exit status of the process; negative if a signal ended it."""
@@ -155,7 +163,8 @@ class LimitedAbi(Abi):
     def _trouble(self, answer: Answer) -> str:
         """Why an answer says nothing about the inputs; empty if it does."""
         if answer.status == _NO_MEMORY:
-            return f"abi ran out of memory under its limit of {self._limits.megabytes} MB"
+            is_limit_of_abi = _PAST_A_LIMIT in answer.notes
+            return answer.why() if is_limit_of_abi else f"abi ran out of memory under its limit of {self._limits.megabytes} MB"
         if answer.status == -signal.SIGXCPU:
             return f"abi was ended: its limit is {self._limits.seconds} seconds of processor time"
         if answer.status not in _TOLD or (answer.status == NO and not answer.text):
