@@ -2,6 +2,7 @@
 
 from __future__ import annotations
 
+import errno
 import os
 import shutil
 import signal
@@ -11,8 +12,10 @@ from pathlib import Path
 from typing import Callable
 
 import pytest
+from abi_release.package_cache import PackageCache
+from abi_release.unpacked import Trouble, side_of
 from conftest import TOOLS, build_id, done, split, system_place
-from release_support import (LIBRARIES, Cluster, answers, bundle, deb, judged, library, lines, packaged, release, results, started,
+from release_support import (LIBRARIES, THREE, Cluster, answers, bundle, deb, judged, library, lines, packaged, release, results, started,
                              table, three, tree, unmeasured, wait_for, wrapper_of)
 
 # How many times workers and the scheduler are ended in a run. Starting them again takes longer than all else.
@@ -98,6 +101,50 @@ def test_a_repair_of_the_tools_judges_again(tmp_path: Path) -> None:
     module = tmp_path / "tools/abi_tools/gates.py"
     module.write_text(module.read_text() + "# repaired\n")
     assert run_of(tmp_path / "tools") == (3, 0)
+
+
+def test_what_a_run_of_abi_leaves_behind_writes_into_no_other_answer(tmp_path: Path) -> None:
+    """The process above `abi` is killed, and `abi` goes on until another library is judged."""
+    three(tmp_path)
+    assert release(tmp_path).status == 1
+    text = (f"case \"$1 $judged\" in 'check lib0.so.1') if mkdir {tmp_path}/once 2>/dev/null; then kill -9 $parent; "
+            f"while [ ! -e {tmp_path}/go ]; do sleep 0.1; done; fi ;; 'check lib2.so.1') touch {tmp_path}/go; sleep 3 ;; esac")
+    ended = release(tmp_path, out="other", wrapper=wrapper_of(tmp_path, text))
+    assert ended.status == 1 and (tmp_path / "go").exists() and table(tmp_path)["digest"] == table(tmp_path, "other")["digest"], ended
+    for name, line in lines(tmp_path).items():
+        kept = [(tmp_path / out / one[kind]).read_bytes() for out, one in (("out", line), ("other", lines(tmp_path, "other")[name]))
+                for kind in ("certificate", "report") if kind in one]
+        assert len(kept) == 2 and kept[0] == kept[1], name
+
+
+def test_a_rule_file_that_changes_while_abi_runs(tmp_path: Path) -> None:
+    """Nothing is judged by rules that are not those of the start of the run, and nothing is kept of it."""
+    three(tmp_path)
+    rules = tmp_path / "abi.rules"
+    rules.write_text("# none\n")
+    text = (f"if [ \"$1\" = check ] && mkdir {tmp_path}/once 2>/dev/null; then "
+            f"printf '[suppress_type]\\nname = point\\n' >{rules}; fi")
+    wrapper = wrapper_of(tmp_path, text)
+    ended = release(tmp_path, "--rules", rules, wrapper=wrapper)
+    assert ended.status == 2 and set(answers(tmp_path).values()) == {"cannot tell"}, ended
+    assert {line["reason"] for line in lines(tmp_path).values()} == {"the rule file is another one than at the start of the run"}
+    assert results(tmp_path) == []
+    rules.write_text("# none\n")
+    assert judged(release(tmp_path, "--rules", rules, wrapper=wrapper)) == (3, 0) and answers(tmp_path) == THREE
+
+
+def test_a_file_of_a_tree_that_the_system_does_not_give_is_no_statement(tmp_path: Path, monkeypatch: pytest.MonkeyPatch) -> None:
+    """Its digest was read before."""
+    place = tmp_path / "tree/usr/lib/libsame.so.1"
+    place.parent.mkdir(parents=True)
+    shutil.copy(library(tmp_path, "libsame.so.1"), place)
+
+    def fail(*_: object) -> int:
+        raise OSError(errno.EIO, os.strerror(errno.EIO))
+
+    monkeypatch.setattr("abi_tools.unpacked_trees.os.open", fail)
+    with pytest.raises(Trouble, match=f"libsame.so.1: {os.strerror(errno.EIO)}"):
+        side_of(PackageCache(tmp_path, 1), [tmp_path / "tree"], tmp_path / "root")
 
 
 def test_a_library_is_not_gone_if_a_new_package_could_not_be_read(tmp_path: Path) -> None:

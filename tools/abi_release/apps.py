@@ -16,7 +16,7 @@ from abi_tools.unpacking import unpack
 from abi_tools.verdicts import Verdict
 from abi_release import workers
 from abi_release.digests import digest_of_files, states
-from abi_release.judging import Outcome, Settings, allow_more_time, guarded, rules_of
+from abi_release.judging import Outcome, Settings, allow_more_time, check_ground, guarded, rules_of
 from abi_release.limited_program import LimitedAbi
 from abi_release.needs import files_that_need, programs
 from abi_release.sources import Work
@@ -74,7 +74,8 @@ def _asked(ask: Ask, settings: Settings, store: Store) -> Outcome:
     abi = LimitedAbi(packages.folder, settings.limits)
     with tempfile.TemporaryDirectory(prefix="programs-", dir=workers.places(settings.run).disk) as folder:
         hit = settings.places(ask.hit)[0][0]
-        before = states([hit]), digest_of_files(settings.places(ask.hit)[0])
+        read = [hit, *([] if settings.rules is None else [Path(settings.rules)])]
+        before = [states([place]) for place in read], digest_of_files(settings.places(ask.hit)[0])
         files, needing = _programs(hit, Path(folder))
         answers = {}
         for library in ask.libraries:
@@ -82,7 +83,9 @@ def _asked(ask: Ask, settings: Settings, store: Store) -> Outcome:
             soname = packages.pairs[library].soname
             answers[library] = _Asking(abi, packages, settings, library).answer(files, needing.get(soname, ()))
         packages.check()
-        if before != (states([hit]), identities[0][0]) or not all(map(os.path.lexists, files.values())):
+        check_ground(settings)
+        after = [states([place]) for place in read], identities[0][0]
+        if before != after or not all(map(os.path.lexists, files.values())):
             raise Trouble("the package changed, or what was unpacked went away, while it was read")
     if abi.trouble:
         return Outcome(reason=abi.trouble)

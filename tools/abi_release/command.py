@@ -70,7 +70,8 @@ def _main(arguments: Sequence[str]) -> int:
                         given.disk or default_disk())
         settings = Settings(os.urandom(16).hex(), str(given.old.resolve()), str(given.new.resolve()), str(store.folder),
                             None if given.rules is None else str(given.rules.resolve()), program_digest(abi.path),
-                            given.require_types, limits, reports=None if given.reports is None else Reports.into(given.reports))
+                            given.require_types, limits, reports=None if given.reports is None else Reports.into(given.reports),
+                            rules_digest=OF_NOTHING if given.rules is None else digest_of_file(given.rules))
         os.environ["ABI"] = abi.path
         if settings.reports is not None:
             os.environ["ABI_JSON"] = json_program()
@@ -154,9 +155,8 @@ def _seconds(text: str) -> float:
 
 def _head(given: argparse.Namespace, settings: Settings) -> Json:
     """What the tables say about the run itself."""
-    rules = OF_NOTHING if given.rules is None else digest_of_file(given.rules)
     named = {} if given.rules is None else {"rules_file": str(given.rules)}
-    return {"version": 2, "old": str(given.old), "new": str(given.new), "rules": rules, **named, "program": settings.program,
+    return {"version": 2, "old": str(given.old), "new": str(given.new), "rules": settings.rules_digest, **named, "program": settings.program,
             "tools": settings.tools, "require_types": settings.least_share}
 
 

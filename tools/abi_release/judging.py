@@ -21,7 +21,8 @@ from abi_tools.package_judging import settled
 from abi_tools.package_sides import Pair, package_rules
 from abi_tools.verdicts import Verdict
 from abi_release import workers
-from abi_release.digests import OF_NOTHING, TOOLS, digest_of_file, digest_of_files, digest_of_json, program_digest, state_of
+from abi_release.digests import (OF_NOTHING, TOOLS, digest_of_file, digest_of_files, digest_of_json, known_digest, program_digest,
+                                 state_of)
 from abi_release.limited_program import FAULT, LimitedAbi, Limits
 from abi_release.needs import imports, version_and_depends
 from abi_release.reports import Reports
@@ -49,8 +50,8 @@ OF_RUN = "run"
 @dataclass(frozen=True)
 class Settings:
     """What is the same for all packages of a run: a mark that no other run has, both folders and that of results, the rule file, the
-    digest of the program, the share of exports that must have types, the limits of each process, the digest of the tools, and where the
-    pages of `abi-report` go, if they are wanted."""
+    digest of the program, the share of exports that must have types, the limits of each process, the digest of the tools, where the
+    pages of `abi-report` go, if they are wanted, and the digest of the rule file."""
 
     run: str
     old: str
@@ -62,6 +63,7 @@ class Settings:
     limits: Limits
     tools: str = TOOLS
     reports: Optional[Reports] = None
+    rules_digest: str = OF_NOTHING
 
     def places(self, work: Work) -> tuple[tuple[Path, ...], tuple[Path, ...]]:
         """The files of both sides."""
@@ -126,7 +128,7 @@ def guarded(task: Callable[[], Outcome], settings: Settings, store: Store, mark:
             if settings.tools != TOOLS:
                 raise Fault("the tools on this worker are others than those of the run")
             allow_more_time(settings, store, mark)
-            _check_program(settings)
+            check_ground(settings)
             return task()
         except Exception as error:  # pylint: disable=broad-except
             return Outcome(reason=settings.plain(reason_of(error)))
@@ -154,18 +156,25 @@ def reason_of(error: Exception) -> str:
     return f"{type(error).__name__}: {error}"
 
 
-def _check_program(settings: Settings) -> None:
-    """Raises a fault if `abi` on this worker is another program."""
+def check_ground(settings: Settings) -> None:
+    """Raises a fault if `abi` on this worker is another program, or if the rule file of the run has other contents than at its start."""
     if program_digest(LimitedAbi(Path(), settings.limits).path) != settings.program:
         raise Fault("abi on this worker is another program than the one of the run")
+    if settings.rules is not None:
+        _check_rules(settings, known_digest(Path(settings.rules)))
+
+
+def _check_rules(settings: Settings, digest: str) -> None:
+    """Raises a fault if the rule file of the run has not this digest."""
+    if settings.rules is not None and digest != settings.rules_digest:
+        raise Fault("the rule file is another one than at the start of the run")
 
 
 def identity_of(work: Work, settings: Settings) -> tuple[str, ...]:
     """What the record of two packages rests on: the digests of both sides, of the rule file, of the program and of the tools, and the
     settings that change results."""
-    rules = settings.rules
-    return (*(digest_of_files(places) for places in settings.places(work)), "" if rules is None else digest_of_file(Path(rules)),
-            settings.program, settings.tools, str(settings.least_share), *work.only)
+    return (*(digest_of_files(places) for places in settings.places(work)), settings.rules_digest, settings.program, settings.tools,
+            str(settings.least_share), *work.only)
 
 
 class Rules(NamedTuple):
@@ -291,6 +300,7 @@ class _Task:
         """The name of the result for two files, and the result."""
         inputs = _Inputs([packages.folder / file for file in files] + ([] if rule_file is None else [rule_file]))
         old, new, rules = (*inputs.digests, OF_NOTHING)[:3]
+        _check_rules(self.settings, rules)
         ground = {"digests": {"old": old, "new": new, "rules": rules}, "program": self.settings.program, "tools": self.settings.tools,
                   "least_share": self.settings.least_share}
         place = result_name(digest_of_json(ground))
@@ -301,7 +311,7 @@ class _Task:
             if abi.trouble or not _is_lasting(judgement):
                 raise Trouble(abi.trouble or "; ".join(judgement.reasons))
             result = {**ground, **_said(judgement), "measured": {"seconds": round(abi.seconds, 3), "megabytes": round(abi.megabytes, 1)}}
-            _check_program(self.settings)
+            check_ground(self.settings)
             inputs.check()
             self.store.put_result(place, result, *_file(judgement))
             self.counts["judged"] += 1

@@ -16,6 +16,7 @@ from abi_tools.debug_files import NoDebugFile
 from abi_tools.found_libraries import contents_of
 from abi_tools.package_judging import joined_or_shipped
 from abi_tools.package_sides import PackagedLibrary, Pair, Side, pairs
+from abi_tools.shown import name_shown
 from abi_tools.unpacked_trees import folder_package
 from abi_release import workers
 from abi_release.digests import State, digest_of_files, known_digest, states
@@ -93,7 +94,7 @@ class Unpacked:
         packages = self._at.disk / _PACKAGES
         packages.mkdir(mode=0o700, exist_ok=True)
         cache = PackageCache(packages, megabytes)
-        return tuple(_side(cache, of_side, root / name) for name, of_side in zip(_SIDES, self.places))
+        return tuple(side_of(cache, of_side, root / name) for name, of_side in zip(_SIDES, self.places))
 
     def _new_trees(self, folder: Path) -> Path:
         self._trees = tempfile.TemporaryDirectory(prefix="trees-", dir=folder)
@@ -220,10 +221,14 @@ def _close(packages: Unpacked) -> None:
         packages.close()
 
 
-def _side(cache: PackageCache, places: Sequence[Path], root: Path) -> Side:
+def side_of(cache: PackageCache, places: Sequence[Path], root: Path) -> Side:
     """A side: its packages, unpacked, or its tree. The first package ships libraries; the others have their debug information."""
     if len(places) == 1 and places[0].is_dir():
         packages = [folder_package(places[0])]
+        refused = next((f"{name_shown(name)}: {file.refused}" for name, file in packages[0].tree.files() if file.refused), "")
+        if refused:
+            # Its digest was read a moment ago, so this is no statement on the tree.
+            raise Trouble(refused)
     else:
         packages = cache.put_side([KeyedFile(place, known_digest(place)) for place in places], root)
     return Side.of(packages, [contents_of(package) for package in packages[:1]])
