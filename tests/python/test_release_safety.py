@@ -16,6 +16,7 @@ import ssl
 import stat
 import subprocess
 import sys
+import tempfile
 import time
 from pathlib import Path
 from typing import Iterator, Sequence
@@ -23,7 +24,7 @@ from typing import Iterator, Sequence
 import pytest
 from abi_release import workers
 from abi_release.package_cache import KeyedFile, PackageCache
-from abi_release.scratch import Scratch, sweep
+from abi_release.scratch import IN_MEMORY, PREFIX, Scratch, sweep
 from abi_tools import unpacking
 from abi_tools.faults import Fault
 from abi_tools.package_sides import Side
@@ -50,9 +51,16 @@ def listening(process: int) -> list[tuple[str, int]]:
     return found
 
 
+def unix_sockets(process: int) -> list[str]:
+    """The sockets of the machine at which a process and its children listen."""
+    ours = children(process)
+    return [line for line in done("ss", "--no-header", "--listening", "--unix", "--processes").splitlines()
+            if ours & {int(one) for one in re.findall(r"pid=(\d+)", line)}]
+
+
 # Asks at each place, as a client without TLS and with a certificate of its own. Who gets an answer can also run code.
 INTRUDER = """\
-import asyncio, sys
+import asyncio, socket, sys
 from distributed import Security
 from distributed.comm import connect
 async def answer_of(address, security):
@@ -63,6 +71,8 @@ async def answer_of(address, security):
     await comm.close()
     return said
 for place in sys.argv[1:]:
+    host, _, port = place.rpartition(":")
+    socket.create_connection((host, int(port)), timeout=5).close()
     for kind, security in (("tcp", None), ("tls", Security.temporary())):
         try:
             said = asyncio.run(asyncio.wait_for(answer_of(f"{kind}://{place}", security), 20))
@@ -80,12 +90,27 @@ def as_nobody(folder: Path, *command: object) -> subprocess.CompletedProcess[str
                           env={"PATH": os.environ["PATH"], "HOME": "/nonexistent", "TMPDIR": str(folder)})
 
 
+def intruder_as_nobody(*places: str) -> list[str]:
+    """What the user nobody gets at each place."""
+    with tempfile.TemporaryDirectory(dir="/tmp") as folder:
+        os.chmod(folder, 0o755)
+        public = Path(folder, "intruder.py")
+        public.write_text(INTRUDER)
+        said = as_nobody(Path("/tmp"), sys.executable, public, *places)
+    words = said.stdout.splitlines()
+    assert len(words) == 2 * len(places), (said.stdout, said.stderr)
+    return words
+
+
 def test_another_user_of_the_machine_is_not_served(tmp_path: Path) -> None:
     """The processes of a run listen on the loopback only, and talk to nobody who has not the run's certificate. Nobody else can look into
-    its folders."""
+    its folders. A scheduler without TLS serves the same user."""
     needs("ss", "setpriv")
     if os.getuid() != 0:
         pytest.skip("there is no right to be another user")
+    with Cluster(tmp_path, workers=0) as cluster:
+        wait_for(lambda: bool(listening(cluster.processes[0].pid)))
+        assert intruder_as_nobody(cluster.address.removeprefix("tcp://"))[0].startswith("served tcp")
     three(tmp_path)
     (tmp_path / "tmp").mkdir()
     wrapper = wrapper_of(tmp_path, _WAIT.format(go=tmp_path / "go"))
@@ -103,14 +128,9 @@ def test_another_user_of_the_machine_is_not_served(tmp_path: Path) -> None:
                     wrapped.sendall(b"\0" * 64)
                     assert wrapped.recv(1) == b"", "there is an answer without a certificate"
                     raise OSError("it was closed")
-        public = Path("/tmp", f"abi-intruder-{os.getpid()}.py")
-        public.write_text(INTRUDER)
-        try:
-            said = as_nobody(Path("/tmp"), sys.executable, public, *(f"127.0.0.1:{port}" for _, port in found))
-        finally:
-            public.unlink()
-        words = said.stdout.split("\n")[:-1]
-        assert len(words) == 2 * len(found) and all(line.startswith("refused") for line in words), (said.stdout, said.stderr)
+        words = intruder_as_nobody(*(f"127.0.0.1:{port}" for _, port in found))
+        assert all(line.startswith("refused") for line in words), words
+        assert unix_sockets(process.pid) == []
         folders = list((tmp_path / "tmp").glob("abi-release-*"))
         assert folders and all(stat.S_IMODE(folder.stat().st_mode) == 0o700 for folder in folders)
         assert len({folder.name for folder in folders}) == 1 and re.fullmatch(r"abi-release-\w{8}", folders[0].name)
@@ -134,7 +154,19 @@ def test_the_dashboard_is_on_the_loopback(tmp_path: Path) -> None:
     assert "the dashboard is at http://127.0.0.1:" in errors
 
 
-@pytest.mark.parametrize("number", [signal.SIGINT, signal.SIGTERM, signal.SIGKILL])
+def folders_of(processes: set[int]) -> set[Path]:
+    """The folders for work in progress that processes use, on the disk and in memory."""
+    found = set()
+    for process in processes:
+        for link in Path(f"/proc/{process}/fd").glob("*"):
+            with contextlib.suppress(OSError):
+                place = Path(os.readlink(link))
+                if place.name == "lock" and place.parent.name.startswith(PREFIX):
+                    found.add(place.parent)
+    return found
+
+
+@pytest.mark.parametrize("number", [signal.SIGINT, signal.SIGTERM, signal.SIGHUP, signal.SIGKILL])
 def test_what_a_run_leaves_behind(tmp_path: Path, number: signal.Signals) -> None:
     """A run is ended while `abi` works: no process goes on, and no folder stays, or the next run removes it."""
     three(tmp_path)
@@ -144,15 +176,17 @@ def test_what_a_run_leaves_behind(tmp_path: Path, number: signal.Signals) -> Non
     wait_for((tmp_path / "runs").exists)
     ours = children(process.pid) - {process.pid}
     assert len(ours) >= 4
+    folders = folders_of({process.pid})
+    assert {folder.parent for folder in folders} == {tmp_path / "tmp", IN_MEMORY}
     process.send_signal(number)
     process.communicate(timeout=100)
     assert process.returncode == (-number if number == signal.SIGKILL else 128 + number)
     wait_for(lambda: not any(is_alive(one) for one in {*ours, *map(int, (tmp_path / "runs").read_text().split())}), seconds=100)
-    folders = list((tmp_path / "tmp").iterdir())
-    assert bool(folders) == (number == signal.SIGKILL), folders
+    assert {folder.exists() for folder in folders} == {number == signal.SIGKILL}, folders
+    assert set((tmp_path / "tmp").iterdir()) == {folder for folder in folders if folder.exists() and folder.parent != IN_MEMORY}
     (tmp_path / "go").touch()
     assert release(tmp_path, wrapper=wrapper, before=("env", f"TMPDIR={tmp_path / 'tmp'}")).status == 1
-    assert list((tmp_path / "tmp").iterdir()) == []
+    assert list((tmp_path / "tmp").iterdir()) == [] and not any(folder.exists() for folder in folders)
 
 
 def test_folders_of_others_are_not_used(tmp_path: Path) -> None:
@@ -287,6 +321,23 @@ def test_the_cache_takes_no_more_of_the_disk_than_it_may(tmp_path: Path) -> None
     assert all(len(tree(tmp_path / f"side{number}")) == 1 for number in range(4))
 
 
+def test_a_run_takes_no_more_of_the_disk_than_it_may(tmp_path: Path) -> None:
+    """Six pairs of packages have a megabyte each, and 3 MB may stay; the libraries of one pair are in use, and joined."""
+    for side in ("old", "new"):
+        for number in range(6):
+            path = library(tmp_path, f"lib{number}.so.1")
+            path.write_bytes(path.read_bytes() + os.urandom(1 << 20))
+            deb(tmp_path / side, f"lib{number}", {f"{LIBRARIES}/{path.name}": path})
+        # with debug information that they share, packages are unpacked to the disk
+        deb(tmp_path / side, "all-dbg", {})
+    (tmp_path / "tmp").mkdir()
+    wrapper = wrapper_of(tmp_path, f"du --summarize --block-size=1M {tmp_path}/tmp >>{tmp_path}/taken 2>/dev/null")
+    ended = release(tmp_path, "--disk", 3, wrapper=wrapper, before=("env", f"TMPDIR={tmp_path / 'tmp'}"))
+    assert ended.status == 0 and set(answers(tmp_path).values()) == {"yes"}, ended
+    taken = [int(line.split()[0]) for line in (tmp_path / "taken").read_text().splitlines()]
+    assert len(taken) >= 6 and 3 <= max(taken) <= 9, taken
+
+
 CLOCK = """\
 import sys, time
 from pathlib import Path
@@ -313,6 +364,28 @@ def test_abi_is_ended_by_the_clock(tmp_path: Path) -> None:
     ended = release(tmp_path, "--clock", 3, "--tries", 1, wrapper=wrapper)
     assert ended.status == 2 and answers(tmp_path) == {**THREE, "lib1 lib1.so.1": "cannot tell"}, ended
     assert "its limit is 3 seconds by the clock" in (tmp_path / "out/table.txt").read_text()
+
+
+# Reading one package takes long.
+WAITING = """
+def _waiting(cls, file, read=SmallPackage.read.__func__):
+    import time
+    time.sleep(1000 * file.name.startswith("lib0"))
+    return read(cls, file)
+SmallPackage.read = classmethod(_waiting)
+"""
+
+
+def test_a_package_at_which_a_worker_waits_costs_a_line(tmp_path: Path) -> None:
+    """The tools wait for it, as on a file system that does not answer; the worker ends by its clock, and the others are judged."""
+    three(tmp_path)
+    shutil.copytree(TOOLS, tmp_path / "tools", ignore=shutil.ignore_patterns("__pycache__"))
+    with (tmp_path / "tools/abi_release/small_packages.py").open("a") as module:
+        module.write(WAITING)
+    command = [tmp_path / "tools/abi-release", "old", "new", "--out", "out", "--workers", "1", "--clock", "10", "--tries", "1"]
+    ended = run(*command, folder=tmp_path)
+    assert ended.status == 1 and answers(tmp_path) == {"lib0 -": "cannot tell", **{key: THREE[key] for key in THREE if "lib0" not in key}}
+    assert "the worker took more than 20 seconds over it" in (tmp_path / "out/table.txt").read_text(), ended
 
 
 def keys(folder: Path, authority: str, *names: str) -> None:
