@@ -2,7 +2,9 @@
 
 from __future__ import annotations
 
+import asyncio
 import html
+import importlib.util
 import os
 import re
 import shutil
@@ -14,12 +16,24 @@ from typing import Any, Iterator
 import pytest
 from abi_release.pages import write_page
 from abi_release.tables import text_of
-from conftest import ROOT
+from conftest import ROOT, TOOLS, done, run
 
 Json = dict[str, Any]
 # How many lines are printed.
 _PRINTED = int(os.environ.get("PRINTED_LINES", "3000"))
 HEAD = {"old": "old", "new": "new", "rules_file": "abi.rules"}
+
+
+def _browsing() -> Any:
+    """The module that drives a browser."""
+    spec = importlib.util.spec_from_file_location("page", ROOT / "bench/page.py")
+    assert spec is not None and spec.loader is not None
+    module = importlib.util.module_from_spec(spec)
+    spec.loader.exec_module(module)
+    return module
+
+
+browsing = _browsing()
 
 
 class Lines:
@@ -121,6 +135,76 @@ def chromium(folder: Path, *options: str) -> subprocess.CompletedProcess[bytes]:
     return subprocess.run(command, capture_output=True, check=True, timeout=900)
 
 
+# The widest column of the page, the least contrast of a text with its ground (WCAG 2.1, "contrast ratio"; colours come with opacities), and
+# the smallest text.
+LOOK = """(() => {
+  const parsed = text => text.match(/[0-9.]+/g).map(Number);
+  const probe = document.body.appendChild(document.createElement("i"));
+  probe.style.background = "Canvas";
+  const canvas = parsed(getComputedStyle(probe).backgroundColor);
+  probe.remove();
+  const linear = part => (part /= 255) <= 0.03928 ? part / 12.92 : ((part + 0.055) / 1.055) ** 2.4;
+  const luminance = ([r, g, b]) => 0.2126 * linear(r) + 0.7152 * linear(g) + 0.0722 * linear(b);
+  let contrast = 99, letters = 99;
+  for (const one of document.querySelectorAll("body *:not(button, input)")) {
+    if (![...one.childNodes].some(node => node.nodeType === 3 && node.data.trim()) || !one.getClientRects().length) continue;
+    let opacity = 1;
+    for (let at = one; at; at = at.parentElement) opacity *= Number(getComputedStyle(at).opacity);
+    const colour = parsed(getComputedStyle(one).color).slice(0, 3).map((part, at) => part * opacity + canvas[at] * (1 - opacity));
+    const [high, low] = [luminance(colour), luminance(canvas)].sort((one, two) => two - one);
+    contrast = Math.min(contrast, (high + 0.05) / (low + 0.05));
+    letters = Math.min(letters, parseFloat(getComputedStyle(one).fontSize));
+  }
+  return [document.documentElement.scrollWidth, contrast, letters, canvas[0]];
+})()"""
+
+
+async def looked_at(place: Path) -> None:
+    """Looks at a page on a phone and on a desktop, light and dark: all of it must be readable without scrolling to the side."""
+    async with browsing.started() as browser:
+        await browsing.opened(browser, place)
+        for width in (320, 390, 1400):
+            await browser.call("Emulation.setDeviceMetricsOverride", width=width, height=844, deviceScaleFactor=1, mobile=width < 600)
+            for scheme in ("light", "dark"):
+                await browser.call("Emulation.setEmulatedMedia", features=[{"name": "prefers-color-scheme", "value": scheme}])
+                wide, contrast, letters, ground = await browser.value(LOOK)
+                assert wide <= width and contrast >= 4.5 and letters >= 11 and (ground > 128) == (scheme == "light"), (
+                    width, scheme, wide, contrast, letters, ground)
+
+
+async def found_in(place: Path) -> None:
+    """The browser finds the last row by its words and, without scripts, shows all rows."""
+    async with browsing.started() as browser:
+        await browsing.opened(browser, place)
+        assert await browser.value("[window.find('libmade598'), window.find('nonesuch')]") == [True, False]
+        await browser.call("Emulation.setScriptExecutionDisabled", value=True)
+        await browsing.opened(browser, place)
+        shown = "[...document.querySelectorAll('main tbody tr')].filter(row => row.getClientRects().length).length"
+        assert await browser.value(f"[document.body.className, {shown}]") == ["", 606]
+
+
+def test_the_page_is_readable_findable_and_whole_without_scripts(tmp_path: Path) -> None:
+    needs_chromium()
+    written(tmp_path, SOME + many(600))
+    asyncio.run(looked_at(tmp_path / "index.html"))
+    asyncio.run(found_in(tmp_path / "index.html"))
+
+
+def test_the_page_of_a_history_is_readable(tmp_path: Path) -> None:
+    """Of ten versions, with each answer."""
+    needs_chromium()
+    texts = [f"int first{number}(int a) {{ return a; }}\nint second(int a) {{ return a; }}\n" for number in (1, 1, 2, 2, 3, 3, 3, 4, 4, 4)]
+    files = []
+    for number, text in enumerate(texts):
+        (tmp_path / "made.c").write_text(text)
+        files.append(tmp_path / f"made{number}.so")
+        done("gcc", *(["-g"] if number != 5 else []), "-shared", "-fPIC", "-o", files[-1], tmp_path / "made.c")
+    ended = run(TOOLS / "abi-history", "--out", "out", *(f"2.{number}.0-1+deb12u1={file}" for number, file in enumerate(files)), folder=tmp_path)
+    assert ended.status == 1 and {word for word in ("yes", "no", "cannot tell") if f"\n{word} " in f"\n{ended.out}"} == {
+        "yes", "no", "cannot tell"}, ended
+    asyncio.run(looked_at(tmp_path / "out/index.html"))
+
+
 def test_all_lines_are_printed(tmp_path: Path) -> None:
     """In a browser, which takes minutes for 30,000 lines."""
     needs_chromium()
@@ -128,8 +212,7 @@ def test_all_lines_are_printed(tmp_path: Path) -> None:
         pytest.skip("there is no pdftotext")
     written(tmp_path, many(_PRINTED))
     pdf = tmp_path / "all.pdf"
-    subprocess.run(["/usr/bin/python3", ROOT / "bench/page.py", "--print", tmp_path / "index.html", pdf], check=True,
-                   timeout=900 + _PRINTED // 10)
+    asyncio.run(asyncio.wait_for(browsing.printed(tmp_path / "index.html", pdf), 900 + _PRINTED // 10))
     text = subprocess.run(["pdftotext", "-layout", pdf, "-"], capture_output=True, text=True, check=True).stdout
     assert len(set(re.findall(r"\blibmade(\d+)\b(?!\.so)", text))) == _PRINTED
 
