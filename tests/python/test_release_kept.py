@@ -130,7 +130,8 @@ def test_a_rule_file_that_changes_while_abi_runs(tmp_path: Path) -> None:
     assert {line["reason"] for line in lines(tmp_path).values()} == {"the rule file is another one than at the start of the run"}
     assert results(tmp_path) == []
     rules.write_text("# none\n")
-    assert judged(release(tmp_path, "--rules", rules, wrapper=wrapper)) == (3, 0) and answers(tmp_path) == THREE
+    ended = release(tmp_path, "--rules", rules, wrapper=wrapper)
+    assert judged(ended) == (3, 0) and answers(tmp_path) == THREE, (ended, lines(tmp_path))
 
 
 def test_a_file_of_a_tree_that_the_system_does_not_give_is_no_statement(tmp_path: Path, monkeypatch: pytest.MonkeyPatch) -> None:
