@@ -10,6 +10,9 @@ from typing import Callable
 import pytest
 from conftest import TOOLS, Ended, abi, done, killer_of_tool, run, script, tool
 
+from abi_tools.elf_files import ElfFile
+from abi_tools.file_needs import FileNeeds
+
 Build = Callable[..., Path]
 
 OLD = """\
@@ -204,6 +207,59 @@ def test_objects_without_types_have_advice_of_their_own(tmp_path: Path) -> None:
     ended = gate(old, new)
     told(ended, "the types of 2 exports are gone: ", "none of 2 objects, ", "table", "size", "in a unit that is built without -g")
     assert "folded" not in ended.out
+
+
+def needing(build: Build, name: str, body: str, *words: str) -> Path:
+    """A library whose one export has this body."""
+    declared = "extern int low(void), other(void), high(void); extern int none(void) __attribute__((weak));"
+    return build(name, f"{declared}\nint f(void) {{ return {body}; }}\n", "-g", "-nostdlib", "-Wl,--no-as-needed", *words)
+
+
+@pytest.fixture
+def others(build: Build, tmp_path: Path) -> list[str]:
+    """Two libraries for others to need. Each symbol of the first one has a version of its own."""
+    versions = tmp_path / "low.map"
+    versions.write_text("LOW_1 { global: low; local: *; };\nLOW_2 { global: other; } LOW_1;\n")
+    low = build("liblow.so", "int low(void) { return 1; }\nint other(void) { return 2; }\n", "-g", f"-Wl,--version-script={versions}",
+                soname="liblow.so.1")
+    return [str(low), str(build("libhigh.so", "int high(void) { return 3; }\n", soname="libhigh.so.1"))]
+
+
+def test_what_only_the_new_library_needs_is_counted(build: Build, others: list[str], monkeypatch: pytest.MonkeyPatch) -> None:
+    """As often as `abi` has a note on it."""
+    low, high = others
+    old = needing(build, "old.so", "low() + none()", low)
+    rows = (("low() - 1", [low], ""), ("low() + none()", [low, high], "1 library"), ("low() + other()", [low], "1 version, 1 symbol"),
+            ("low() + other() + high()", [low, high], "1 library, 1 version, 2 symbols"), ("none()", [], ""))
+    for number, (body, words, more) in enumerate(rows):
+        new = needing(build, f"new-{number}.so", body, *words)
+        ended = gate(old, new)
+        assert ended.out == f"yes: 1 exports compared, 1 with types{f'; needs more of other files: {more}' if more else ''}\n", ended
+        monkeypatch.setenv("ABI_NOTES", "1")
+        notes = abi("check", old, new).errors
+        monkeypatch.delenv("ABI_NOTES")
+        kinds = [(notes.count(f"note: needs {kind}: "), kind) for kind in ("library", "version", "symbol")]
+        assert more == ", ".join(f"{count} {kind}{'s' if count > 1 else ''}" for count, kind in kinds if count), notes
+    baseline = old.with_suffix(".abi")
+    assert tool("abi-baseline", old, baseline).status == 0
+    assert gate(baseline, old).out == "yes: 1 exports compared, 1 with types\n"
+
+
+def test_damaged_needs_change_no_answer(build: Build, others: list[str]) -> None:
+    """A count of 2^32 - 1 needed files whose entries all are the first one, and one whose names end nowhere."""
+    old, new = (needing(build, name, "low() + other()", others[0]) for name in ("old.so", "new.so"))
+    (section,) = [one for one in ElfFile(new).sections if one.kind == 0x6FFFFFFE]
+    headers = ElfFile(new).header.sections_at + 64 * section.number
+    whole = new.read_bytes()
+    endless = bytearray(whole)
+    endless[headers + 44:headers + 48] = b"\xff" * 4
+    endless[section.offset + 12:section.offset + 16] = bytes(4)
+    nameless = bytearray(whole)
+    nameless[section.offset + 4:section.offset + 8] = b"\xff" * 4
+    for contents in (endless, nameless):
+        new.write_bytes(contents)
+        assert FileNeeds.read(ElfFile(new)) is None
+        assert gate(old, new).out == "yes: 1 exports compared, 1 with types\n"
 
 
 def test_a_status_without_its_text_is_no_answer(build: Build, tmp_path: Path, monkeypatch: pytest.MonkeyPatch) -> None:

@@ -82,6 +82,11 @@ def test_help_keeps_to_the_width(name: str, monkeypatch: pytest.MonkeyPatch) -> 
         assert printed.startswith(f"usage: {name} ") and max(map(len, printed.splitlines())) < columns
 
 
+@pytest.mark.parametrize("name", sorted(_MODULES))
+def test_help_describes_each_argument(name: str) -> None:
+    assert all(action.help for action in parser_of(_MODULES[name])._actions)
+
+
 def test_help_fills_paragraphs_and_lists() -> None:
     parser = Arguments("tool", "One sentence\nin two lines.", "After it:\n  0   yes: one two\n      three\n  64  wrong\n")
     with pytest.MonkeyPatch.context() as patch:

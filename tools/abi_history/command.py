@@ -123,7 +123,8 @@ def _parser() -> Arguments:
                              "1024 to 4096)")
     parser.add_argument("--seconds", type=limit_of, default=600, metavar="S",
                         help="the processor time limit of each run of abi (default: 600)")
-    parser.add_argument("release", nargs="+", metavar="RELEASE")
+    parser.add_argument("release", nargs="+", metavar="RELEASE",
+                        help="a version of the library, the oldest first: a file, or packages of it")
     return parser
 
 

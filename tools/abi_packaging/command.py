@@ -41,7 +41,7 @@ def main(arguments: Sequence[str]) -> int:
                         help="a licence to add to those of the kit's crates and of the C library, which are found; may be given more than once")
     parser.add_argument("--gate", type=Path, metavar="FILE", help="the log of the gate, whose last line goes into the record")
     parser.add_argument("--maintainer", default="The abi developers", metavar="NAME", help="who makes the packages")
-    parser.add_argument("prefix", type=Path, metavar="PREFIX")
+    parser.add_argument("prefix", type=Path, metavar="PREFIX", help="the folder into which install.sh installed")
     parser.add_argument("output", type=Path, metavar="FOLDER", help="the folder for the packages")
     given = parser.parse_args(arguments)
     for path in _made(given, Release(given.version, release_time(_SOURCES), given.maintainer)):

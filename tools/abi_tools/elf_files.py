@@ -35,6 +35,7 @@ SHT_DYNSYM = 11
 _SHT_GNU_VERNEED = 0x6FFFFFFE
 _SHT_GNU_VERSYM = 0x6FFFFFFF
 _SHN_UNDEF = 0
+_STB_GLOBAL = 1
 # The bits of a version index without the hidden bit; vn_version, vn_cnt, vn_file, vn_aux and vn_next; vna_hash, vna_flags,
 # vna_other, vna_name and vna_next (GNU symbol versioning).
 _VERSION_INDEX = 0x7FFF
@@ -350,7 +351,11 @@ class ElfFile:
 
     def needed(self) -> list[str]:
         """The libraries that the file needs (DT_NEEDED). Raises a fault if the dynamic table is damaged."""
-        return [text for tag, text in self._dynamic_texts() if tag == _DT_NEEDED]
+        return list(self.needed_files())
+
+    def needed_files(self) -> Iterator[str]:
+        """The same libraries, one after the other."""
+        return (text for tag, text in self._dynamic_texts() if tag == _DT_NEEDED)
 
     def _dynamic_texts(self) -> Iterator[tuple[int, str]]:
         """The tag and the name of each DT_NEEDED and DT_SONAME entry."""
@@ -367,6 +372,15 @@ class ElfFile:
     def imports(self) -> Iterator[tuple[str, Optional[tuple[str, str]]]]:
         """The names of the undefined dynamic symbols, each with the file and version that it needs, if it needs one. Raises a fault if a
         table is damaged."""
+        return ((name, version) for name, version, _ in self._undefined())
+
+    def strong_imports(self) -> Iterator[tuple[str, str]]:
+        """The names of the undefined dynamic symbols that another file must define, each with its version, or an empty text: their
+        binding is GLOBAL, and a symbol with the binding WEAK may stay undefined (gABI, "Symbol Table"). Raises a fault as `imports`."""
+        return ((name, version[1] if version else "") for name, version, binding in self._undefined() if binding == _STB_GLOBAL)
+
+    def _undefined(self) -> Iterator[tuple[str, Optional[tuple[str, str]], int]]:
+        """The names of the undefined dynamic symbols, each with the file and version that it needs, and its binding."""
         try:
             texts, symbols = self._symbols()
             indexes = [index & _VERSION_INDEX for section in self._of_kind(_SHT_GNU_VERSYM)
@@ -375,9 +389,17 @@ class ElfFile:
             for number, symbol in enumerate(symbols):
                 name = _text(texts, symbol[0])
                 if symbol[3] == _SHN_UNDEF and name:
-                    yield name, versions.get(indexes[number] if number < len(indexes) else 0)
+                    yield name, versions.get(indexes[number] if number < len(indexes) else 0), symbol[1] >> 4
         except DAMAGED as error:
             raise Fault(f"{self.name}: a table of dynamic symbols or of their versions is damaged") from error
+
+    def needed_versions(self) -> Iterator[tuple[str, str]]:
+        """The versions that the file needs from other files, each with its file. Raises a fault if their table is damaged."""
+        try:
+            for _, version in self._needed_versions():
+                yield version
+        except DAMAGED as error:
+            raise Fault(f"{self.name}: the table of needed versions is damaged") from error
 
     def _needed_versions(self) -> Iterator[tuple[int, tuple[str, str]]]:
         """The versions that the file needs from other files, by index: the other file and the version (GNU symbol versioning)."""

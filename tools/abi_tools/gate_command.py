@@ -88,7 +88,9 @@ def _parser() -> Arguments:
     parser.add_argument("--seconds", type=number_above_0, default=600, metavar="S",
                         help="the processor time limit of each library and of each run of abi (default: 600)")
     parser.add_argument("--limits", action=ShowLimits, help="print what is too much to be read, and exit")
-    parser.add_argument("files", type=Path, nargs="*", metavar="FILE")
+    parser.add_argument("files", type=Path, nargs="*", metavar="FILE",
+                        help="OLD, a released library or what abi-baseline kept of it, and NEW, a new build of it; both with their debug "
+                             "information. BASELINES is a folder of such old ones")
     return parser
 
 

@@ -137,7 +137,7 @@ def _outcome_of(pair: Pair, judgement: Judgement) -> Outcome:
                     typed=judgement.typed, text="" if answer is None else answer.text,
                     notes=() if answer is None else tuple(answer.notes.splitlines()))
     if judgement.verdict == Verdict.YES:
-        return replace(found, said=judgement.words())
+        return replace(found, said="; ".join(filter(None, (judgement.words(), judgement.new_needs()))))
     if judgement.verdict == Verdict.NO and answer is not None:
         return replace(found, said=counted(len(answer.rows), "break"), breaks=tuple(map(Break.of_row, answer.rows)))
     return replace(found, said="; ".join(judgement.reasons), notes=())

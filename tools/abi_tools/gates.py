@@ -17,6 +17,7 @@ from abi_tools.counting import counted
 from abi_tools.debug_levels import Levels
 from abi_tools.elf_files import ElfFile
 from abi_tools.faults import Fault
+from abi_tools.file_needs import FileNeeds
 from abi_tools.verdicts import DEFAULT_SHARE, Verdict
 
 # How many exports without types a reason names.
@@ -31,19 +32,21 @@ _INDIRECT = "IFUNC"
 
 @dataclass(frozen=True)
 class Library:
-    """A library: its exports as `abi` reads them, which code has types, and the values of its dynamic symbols."""
+    """A library: its exports as `abi` reads them, which code has types, the values of its dynamic symbols, and what it needs of other
+    files, if that can be read."""
 
     path: Path
     exports: dict[int, Export]
     levels: Levels
     values: list[int]
+    needs: Optional[FileNeeds] = None
 
     @classmethod
     def read(cls, abi: Abi, path: Path) -> "Library":
         """Reads a library. Raises a fault if `abi` cannot read it."""
         exports = {export.number: export for export in abi.exports(path)}
         file = ElfFile(abi.folder / path)
-        return cls(path, exports, Levels(file), file.symbol_values())
+        return cls(path, exports, Levels(file), file.symbol_values(), FileNeeds.read(file))
 
     @cached_property
     def by_label(self) -> dict[str, Export]:
@@ -100,6 +103,14 @@ class Judgement:
         if self.compared and not self.counting:
             return f"{self.compared} exports compared, all of them indirect functions or in assembler, which have no types"
         return f"{self.compared} exports compared, {self.typed} with types{share_words(self.compared, self.counting, self.typed)}"
+
+    def new_needs(self) -> str:
+        """What only the new library needs of other files, in words; empty if that is nothing, or nothing is known. It is no part of the
+        verdict."""
+        if self.old is None or self.new is None or self.old.needs is None or self.new.needs is None:
+            return ""
+        more = self.new.needs.more(self.old.needs)
+        return f"needs more of other files: {more}" if more else ""
 
 
 def share_words(compared: int, counting: int, typed: int) -> str:

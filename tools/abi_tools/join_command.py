@@ -23,9 +23,9 @@ def main(arguments: Sequence[str]) -> int:
     parser = Arguments("join-debug", _DESCRIPTION, _STATUSES)
     parser.add_argument("--root", type=Path, default=Path("/"), metavar="FOLDER",
                         help="the folder of an unpacked package with its usr/lib/debug (default: /)")
-    parser.add_argument("library", type=Path, metavar="LIBRARY")
-    parser.add_argument("output", type=Path, metavar="OUTPUT")
-    parser.add_argument("debug_file", type=Path, nargs="?", metavar="DEBUG_FILE")
+    parser.add_argument("library", type=Path, metavar="LIBRARY", help="the library, as it is shipped")
+    parser.add_argument("output", type=Path, metavar="OUTPUT", help="the file for both")
+    parser.add_argument("debug_file", type=Path, nargs="?", metavar="DEBUG_FILE", help="the debug file of the library")
     given = parser.parse_args(arguments)
     inputs = [given.library] + ([given.debug_file] if given.debug_file else [])
     clear_output(given.output, inputs)

@@ -97,7 +97,7 @@ class Judging:
         judgement = doubted(self._judgement(folder, name, rules), pair)
         kept = [*self._keep(name, judgement), *self._keep_libraries(name, judgement.verdict, rules)]
         more = [pair.folders, f"rules {said_of_rules}" if said_of_rules else ""]
-        parts = [_outcome(judgement), *_types(judgement), *(one for one in more if one), *kept]
+        parts = [_outcome(judgement), *_types(judgement), *filter(None, (judgement.new_needs(), *more)), *kept]
         if judgement.verdict != Verdict.YES:
             parts += [reason for reason in reasons if reason]
         for place in ("old", "new"):

@@ -101,7 +101,9 @@ def _parser() -> Arguments:
     parser.add_argument("--seconds", type=number_above_0, default=600, metavar="S",
                         help="the processor time limit of each step and of each run of abi (default: 600)")
     parser.add_argument("--limits", action=ShowLimits, help="print what is too much to be read, and exit")
-    parser.add_argument("old", type=Path, nargs="+", metavar="OLD", help="packages of the old build")
+    parser.add_argument("old", type=Path, nargs="+", metavar="PACKAGE",
+                        help="OLD, the packages of the old build, and NEW, those of the new one: .deb or .rpm files of libraries and of "
+                             "their debug information, in any order")
     return parser
 
 
