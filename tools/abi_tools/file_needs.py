@@ -16,7 +16,7 @@ Names = TypeVar("Names", bound="tuple[str, ...]")
 # What the entries may weigh together: each one its names and a constant. Names may lie in one another, and entries in one another, so
 # that a small file has many of them.
 _MOST = 1 << 26
-_ENTRY = 32
+_ENTRY = 256
 
 
 @dataclass(frozen=True)
