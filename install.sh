@@ -9,8 +9,9 @@
 # --static links the programs with gcc and the C library's archive, so that they run on any Linux for x86-64. Otherwise they need the
 # version of the C library that the kit has. With DESTDIR set, all files are put below that folder, as packagers need it.
 #
-# It proves on a copy, as the gate does, without tests and wrong edits. What the gate or an earlier run on this machine proved is not
-# proved again. JOBS sets how many crates are proved at a time; rt chooses if it is not set.
+# It proves on a copy, as the gate does, without tests and wrong edits. Some kits keep what the gate or an earlier run on this machine
+# proved, and do not prove it again; others prove everything at each run. JOBS sets how many crates are proved at a time; rt chooses if it
+# is not set.
 set -euo pipefail
 
 static=
@@ -91,7 +92,7 @@ while IFS=: read -r crate _; do
 done <"$work/crates.txt"
 
 log=$(mktemp)
-echo "proving $(wc -l <"$work/crates.txt") crates; the first time takes half an hour or more"
+echo "proving $(wc -l <"$work/crates.txt") crates; this takes half an hour or more, unless the kit has kept their proofs"
 [ -z "${JOBS:-}" ] || export RT_JOBS=$JOBS
 (cd "$work" && rt ci 2>&1) | follow || {
     grep -E '^rt: .*(NOT|failed)|error' "$log" >&2 || tail -n 20 "$log" >&2

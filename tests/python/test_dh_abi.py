@@ -107,7 +107,7 @@ def test_a_package_from_its_first_build_to_a_break(package: Path, tmp_path: Path
                     "stream.c": SOURCE.replace("int a;", "long a;") + "int one(void) { return 1; }\n"})
     ended = build(package)
     assert ended.status == 0 and "yes: 2 exports compared, 2 with types" in ended.out, ended
-    assert ended.out.index(" dh_abi") < ended.out.index(" dh_dwz")
+    assert ended.out.index(" dh_dwz") < ended.out.index(" dh_abi") < ended.out.index(" dh_strip\n")
     usr = contents(package, tmp_path / "made")
     document = usr / "share/doc/libstream1"
     assert (document / "abi.rules").read_text() == "[suppress_type]\nname = inside\n"
@@ -124,6 +124,43 @@ def test_a_package_from_its_first_build_to_a_break(package: Path, tmp_path: Path
     assert f"no: libstream.so.1 of libstream1 may not replace the released one; the report is {report.relative_to(package)}" in ended.errors
     assert "struct stream" in report.read_text()
     assert not (package / KEPT / "libstream.so.1.cert").exists()
+
+
+# Two libraries in one package: dh_dwz moves what they share to a file of its own.
+TWO = MAKEFILE + "all: two\ntwo:\n\tgcc $(CFLAGS) -fPIC -shared -Wl,--build-id -Wl,-soname,libsecond.so.1 -o libsecond.so.1 stream.c\n"
+
+
+def packages_of(folder: Path, to: Path) -> list[Path]:
+    """The packages of a build, in a folder of their own."""
+    to.mkdir()
+    return [path.rename(to / f"{path.stem}.deb") for path in sorted(folder.parent.glob("libstream1*.*deb"))]
+
+
+@pytest.mark.parametrize("makefile, install", ((MAKEFILE, "libstream.so.*"), (TWO, "lib*.so.*")), ids=("one", "two"))
+def test_a_receiver_checks_the_certificate_that_ships(package: Path, tmp_path: Path, monkeypatch: pytest.MonkeyPatch, makefile: str,
+                                                      install: str) -> None:
+    """From the packages of both releases alone, in which the debug information is apart, compressed, and partly in a shared file."""
+    monkeypatch.setenv("DEB_BUILD_OPTIONS", "")
+    write(package, {"Makefile": makefile, "debian/libstream1.install": f"{install} usr/lib/x86_64-linux-gnu\n"})
+    build(package)
+    done("dh_abi", "--update", folder=package)
+    assert build(package).status == 0
+    old = packages_of(package, tmp_path / "old")
+    assert [path.name.split("_")[0] for path in old] == ["libstream1-dbgsym", "libstream1"]
+    write(package, {"stream.c": SOURCE + "int one(void) { return 1; }\n"})
+    ended = build(package)
+    assert ended.status == 0, ended
+    new = packages_of(package, tmp_path / "new")
+    for name, side in (("old", old), ("new", new)):
+        done("dpkg-deb", "-x", side[1], tmp_path / f"{name}-unpacked")
+    document = "usr/share/doc/libstream1"
+    judged = run("abi-packages", "--verify", tmp_path / "new-unpacked" / document, *old, "--", *new, folder=tmp_path)
+    assert judged.status == 0 and "accepted certificate" in judged.out and "2 exports compared, 2 with types" in judged.out, judged
+    assert judged.out.splitlines()[-1].startswith(f"{1 + (makefile == TWO)} librar"), judged
+    # The certificate of another step, another library, and packages without their debug information.
+    for certificates, before, after in (("old", old, new), ("new", new, new), ("new", old, old), ("new", old[1:], new), ("new", old, new[1:])):
+        ended = run("abi-packages", "--verify", tmp_path / f"{certificates}-unpacked" / document, *before, "--", *after, folder=tmp_path)
+        assert ended.status == 2 and "OtherInput" in ended.out and "accepted" not in ended.out, ended
 
 
 def judged(folder: Path, *options: str) -> Ended:

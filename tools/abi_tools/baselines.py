@@ -36,7 +36,8 @@ def _kept(library: ElfFile) -> Iterator[tuple[Section, bytes]]:
     for number in sorted(set(_chosen(library))):
         section = library.sections[number]
         name = section.name.replace(".zdebug_", ".debug_", 1)
-        yield replace(section, name=name), library.contents(section)
+        # A compressed section is aligned as its header needs it, and not as its contents do. DWARF needs no alignment.
+        yield replace(section, name=name, alignment=1 if section.is_debug else section.alignment), library.contents(section)
 
 
 def _chosen(library: ElfFile) -> Iterator[int]:

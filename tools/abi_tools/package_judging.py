@@ -102,6 +102,7 @@ class Judging:
             parts += [reason for reason in reasons if reason]
         for place in ("old", "new"):
             (folder / place / name).unlink()
+            (folder / place / f"{name}.abi").unlink(missing_ok=True)
         return Line(judgement.verdict.words(), pair.name, "; ".join(parts), judgement.verdict, _notes(judgement))
 
     def _judgement(self, folder: Path, name: str, rules: Optional[Path]) -> Judgement:

@@ -9,6 +9,8 @@ from pathlib import Path
 from typing import Optional
 
 from abi_tools.abi_program import YES, Abi, Answer
+from abi_tools.baselines import baseline
+from abi_tools.elf_files import ElfFile
 from abi_tools.faults import Fault
 from abi_tools.gates import Judgement, Library, judge_answer
 from abi_tools.limits import LARGEST_FILE
@@ -16,6 +18,8 @@ from abi_tools.verdicts import Verdict
 
 # The name in the folder in which `abi` runs.
 _COPY = Path("certificate")
+# The exit status of `abi verify` if it refuses a certificate.
+_REFUSED = 5
 
 
 @dataclass(frozen=True)
@@ -31,19 +35,39 @@ class Libraries:
         options = [] if self.rules is None else [f"--rules={self.rules}"]
         return [*options, "--", str(self.old), str(self.new)]
 
+    def baselines(self, folder: Path) -> Optional["Libraries"]:
+        """The baselines of both, which are written beside them below the folder; None if they have none."""
+        made = [path.with_name(f"{path.name}.abi") for path in (self.old, self.new)]
+        try:
+            for path, library in zip(made, (self.old, self.new)):
+                (folder / path).write_bytes(baseline(ElfFile(folder / library)))
+        except Fault:
+            return None
+        return Libraries(made[0], made[1], self.rules)
+
 
 def verified(abi: Abi, libraries: Libraries, certificate: Path, least_share: float) -> Judgement:
-    """The verdict on two libraries by a certificate: if `abi verify` accepts it, what the gate says of a yes with this certificate;
-    otherwise that it cannot be told. What a certificate says is believed only when it has been accepted."""
+    """The verdict on two libraries by a certificate of them or of their baselines: if `abi verify` accepts it, what the gate says of a
+    yes with this certificate; otherwise that it cannot be told. What a certificate says is believed only when it has been accepted."""
     text = _text(certificate)
     (abi.folder / _COPY).write_bytes(text)
     checked = abi.run("verify", *libraries.words(), str(_COPY))
+    if _is_of_others(checked):
+        kept = libraries.baselines(abi.folder)
+        again = None if kept is None else abi.run("verify", *kept.words(), str(_COPY))
+        if kept is not None and again is not None and not _is_of_others(again):
+            libraries, checked = kept, again
     if checked.status != YES or checked.text != "accepted\n":
         said = "; ".join([*checked.text.splitlines(), *(line.removeprefix("abi: ") for line in checked.notes.splitlines())])
         reason = f"{certificate} is no certificate of these libraries: {said}" if checked.status > 0 and said else checked.why()
         return Judgement(Verdict.CANNOT_TELL, (reason,), None)
     answer = Answer(YES, text.decode("utf-8", "surrogateescape"), checked.notes)
     return judge_answer(answer, Library.read(abi, libraries.old), Library.read(abi, libraries.new), least_share)
+
+
+def _is_of_others(checked: Answer) -> bool:
+    """Whether `abi verify` said that the digests in a certificate are those of other files."""
+    return checked.status == _REFUSED and checked.text.startswith("refused 70 OtherInput ")
 
 
 def _text(certificate: Path) -> bytes:
