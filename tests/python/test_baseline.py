@@ -7,7 +7,7 @@ from pathlib import Path
 from typing import Callable
 
 import pytest
-from conftest import FIRST, Ended, abi, done, exports, refused, run, script, section_bytes, shared, split, tool
+from conftest import FIRST, SECOND, Ended, abi, done, exports, refused, run, script, section_bytes, shared, split, tool
 
 Build = Callable[..., Path]
 
@@ -71,6 +71,29 @@ def test_compressed_sections_are_inflated(build: Build, tmp_path: Path) -> None:
     assert run(os.environ["ABI"], "exports", packed).status == 2
     assert tool("abi-baseline", packed, tmp_path / "kept.abi").status == 0
     assert exports(tmp_path / "kept.abi") == exports(plain)
+
+
+def test_a_baseline_of_packages_has_the_bytes_of_one_of_the_build(build: Build, tmp_path: Path) -> None:
+    """Packages ship debug information apart and compressed, and partly in a file that dwz makes for several libraries."""
+    libraries = [build(f"{number}.so", text, soname=f"lib{number}.so.1") for number, text in ((1, FIRST), (2, SECOND))]
+    for name in ("whole", "shared"):
+        if name == "shared":
+            shared(libraries, tmp_path / "common.debug")
+        folder = tmp_path / name
+        folder.mkdir()
+        done("cp", *libraries, folder)
+        if name == "shared":
+            done("cp", tmp_path / "common.debug", folder)
+        debug = tmp_path / f"{name}.debug"
+        stripped = split(folder / "1.so", debug)
+        done("objcopy", "--compress-debug-sections", debug)
+        kept = []
+        for library, words in ((folder / "1.so", []), (stripped, [debug])):
+            joined = tmp_path / f"{name}-{library.suffix}.joined"
+            assert tool("join-debug", library, joined, *words).status == 0
+            assert tool("abi-baseline", joined, joined.with_suffix(".abi")).status == 0
+            kept.append(joined.with_suffix(".abi").read_bytes())
+        assert kept[0] == kept[1] and len(kept[0]) > 1000
 
 
 def test_what_cannot_be_kept_is_refused(build: Build, tmp_path: Path) -> None:

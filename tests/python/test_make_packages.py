@@ -103,7 +103,10 @@ def unpacked(made: Path, tmp_path: Path) -> dict[str, Path]:
 def test_packages_hold_what_is_installed(made: Path, tmp_path: Path) -> None:
     found = unpacked(made, tmp_path)
     listed = {kind: sorted(str(path.relative_to(top)) for path in top.rglob("*")) for kind, top in found.items()}
-    assert listed["deb"] == listed["rpm"] == listed["tar"]
+    modules = ["lib/python3", "lib/python3/dist-packages", "lib/python3/dist-packages/abi"]
+    assert [name for name in listed["deb"] if name not in modules] == listed["rpm"] == listed["tar"]
+    told = run("env", f"PYTHONPATH={found['deb'] / 'lib/python3/dist-packages'}", "/usr/bin/python3", "-c", "import abi; print(abi.check)")
+    assert told.status == 0 and "function check" in told.out, told
     for top in found.values():
         assert [run(top / "bin" / name).out for name in ("abi", "abi-json")] == ["abi\n", "abi-json\n"]
         for tool in INSTALLED_TOOLS:

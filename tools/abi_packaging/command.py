@@ -16,7 +16,7 @@ from abi_packaging.contents import abi_for_debian, abi_for_rpm, dh_abi, stage_dh
 from abi_packaging.licences import crate_licences, library_licences
 from abi_packaging.packing import archive, debian_package, rpm_package
 from abi_packaging.program_needs import needs_of, release_number
-from abi_packaging.staging import Installation, copied, place, stage
+from abi_packaging.staging import Installation, copied, place, stage, with_module
 
 _DESCRIPTION = """\
 Makes packages of an installation of `abi`: abi_VERSION_amd64.deb, dh-abi_VERSION_all.deb, abi-VERSION-1.x86_64.rpm and
@@ -78,7 +78,7 @@ def _made(given: argparse.Namespace, release: Release) -> list[Path]:
         _document(given, installation, top / "share/doc/abi", is_static=not needs.versions)
         stage_dh_abi(_SOURCES, work / "dh-abi/usr", release.time)
         made = [
-            debian_package(abi_for_debian(needs), release, _root(top, work / "debian"), output),
+            debian_package(abi_for_debian(needs), release, with_module(_root(top, work / "debian")), output),
             debian_package(dh_abi(release.version), release, work / "dh-abi", output),
             rpm_package(abi_for_rpm(needs), release, _root(top, work / "rpm"), output),
             archive("abi", release, top, output),

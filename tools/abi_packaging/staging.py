@@ -107,6 +107,14 @@ def settle(top: Path, time: int) -> None:
         os.utime(path, (time, time), follow_symlinks=False)
 
 
+def with_module(root: Path) -> Path:
+    """Puts a link to the library `abi` where the Python of Debian looks for modules, and returns the folder of the package."""
+    modules = root / "usr/lib/python3/dist-packages"
+    modules.mkdir(parents=True)
+    (modules / "abi").symlink_to("../../abi/tools/abi")
+    return root
+
+
 def copied(top: Path, to: Path) -> Path:
     """A copy of staged files, with their times."""
     shutil.copytree(top, to, symlinks=True)
