@@ -116,7 +116,8 @@ def test_pages_name_the_variables_that_programs_read() -> None:
 
 
 def test_pages_of_the_programs_name_each_other_page() -> None:
-    names = {path.name.removesuffix(".1") for path in (SHARE / "man/man1").iterdir()}
+    """That of dh_abi comes with a package of its own."""
+    names = {path.name.removesuffix(".1") for path in (SHARE / "man/man1").iterdir()} | {"dh_abi"}
     for program in ("abi", "abi-json"):
         text = (SHARE / f"man/man1/{program}.1").read_text().replace("\\-", "-")
         assert names - {program} <= set(re.findall(r"^\.BR (\S+) \(1\)", text[text.index(".SH SEE ALSO"):], re.MULTILINE))

@@ -16,6 +16,8 @@ _MARKED = re.compile(r"`([^`]*)`|\*([^*]*)\*")
 _RULES = "A line of a report begins with the rule that is broken. Exports have rules in X, and types in L."
 # The variables of the environment that the programs read.
 _READ_BY_ABI, _READ_BY_JSON = ("ABI_NOTES",), ("ABI_NOTES", "ABI_DIGESTS")
+# Pages that come with packages of their own.
+_ELSEWHERE = ("dh_abi",)
 # Options that abi-json does not take.
 _CHOSEN_BY_JSON = ("report",)
 
@@ -35,7 +37,7 @@ def abi_page(manual: Manual) -> str:
         *environment(manual, _READ_BY_ABI),
         ".SH LIMITS", *paragraphs(source["limits"]),
         *_examples(source["example"]),
-        *see_also(["abi-json", *manual.tools, "abidiff", "readelf", "pahole"]),
+        *see_also(["abi-json", *manual.tools, *_ELSEWHERE, "abidiff", "readelf", "pahole"]),
     ]
     return "\n".join(lines) + "\n"
 
@@ -52,7 +54,7 @@ def json_page(manual: Manual) -> str:
         *_statuses(manual), ".PP", "With status 4 and no document, a sentence on standard error says what is wrong.",
         *environment(manual, _READ_BY_JSON),
         *_examples(source["json_example"]),
-        *see_also(["abi", *manual.tools, "jq"]),
+        *see_also(["abi", *manual.tools, *_ELSEWHERE, "jq"]),
     ]
     return "\n".join(lines) + "\n"
 
