@@ -250,6 +250,26 @@ def test_versions_of_symbols_to_raise_are_named(released: Path) -> None:
     assert ended.status == 0 and f"debian/libstream1.symbols: {words}" in ended.errors, ended
 
 
+def test_exports_that_lead_to_a_new_enumerator_are_named(package: Path) -> None:
+    """Also behind a typedef, a pointer and a structure. An enumeration that no export reaches, and one that is the same, have no line."""
+    text = SOURCE + ("enum way { to, from };\ntypedef const enum way way_type;\nstruct held { way_type *way; };\nenum same { one };\n"
+                     "enum unseen { none } unseen_by_callers(void);\n"
+                     "int stream_way(struct held *held) { return *held->way + (enum unseen)0; }\nint stream_same(enum same same) { return same; }\n")
+    write(package, {"stream.c": text, "debian/libstream1.symbols": "libstream.so.1 libstream1 #MINVER#\n stream_left@Base 1.0\n"})
+    installed(package)
+    done("dh_abi", "--update", folder=package)
+    ended = judged(package)
+    assert ended.status == 0 and "raise" not in ended.errors, ended
+    write(package, {"stream.c": text.replace("from }", "from, across, along }").replace("{ none }", "{ none, more }")})
+    installed(package)
+    ended = judged(package)
+    words = "raise the versions of the exports that lead to new enumerators of enum way (across, along): stream_way"
+    assert ended.status == 0 and f"debian/libstream1.symbols: {words}\n" in ended.errors, ended
+    assert ended.errors.count("raise the versions") == 1
+    (package / "debian/libstream1.symbols").unlink()
+    assert "raise" not in judged(package).errors
+
+
 def test_an_override_replaces_the_call(released: Path) -> None:
     write(released, {"stream.c": BREAK, "debian/rules": RULES + "override_dh_abi:\n\techo my own gate\n"})
     ended = run("debian/rules", "binary", folder=released)

@@ -4,12 +4,11 @@ document that has none, as when the notes on thousands of breaks pass a limit.""
 from __future__ import annotations
 
 from collections import deque
-from typing import Optional, Sequence
+from typing import Optional, Protocol, Sequence
 
 from abi_report.documents import Place
 from abi_report.entries import Entry
 from abi_report.records import Records
-from abi_report.subjects import Side
 from abi_report.ways import below
 
 # How many types a search visits. Past it, the search has no result.
@@ -18,10 +17,21 @@ _MOST_TYPES = 200_000
 _Key = tuple[object, ...]
 
 
+class Declared(Protocol):
+    """What one library declares, and which declaration an export has."""
+
+    @property
+    def records(self) -> Optional[Records]:
+        """What it declares, if that can be read."""
+
+    def export(self, label: str) -> Optional[Entry]:
+        """The declaration of an export."""
+
+
 class Reaching:
     """The exports that reach each type."""
 
-    def __init__(self, side: Side, labels: Sequence[str]) -> None:
+    def __init__(self, side: Declared, labels: Sequence[str]) -> None:
         """Searches from these exports of the old library."""
         self._labels = labels
         # For each type, a number whose bit n says whether the export n reaches it.

@@ -174,6 +174,8 @@ def _kept(given: argparse.Namespace, outcomes: list[Outcome]) -> list[Outcome]:
     found = [_certified(given, one, names[one.name]) for one in outcomes]
     if given.reports is not None:
         found = beside.with_reports(found, given.reports, names)
+    if given.json is not None:
+        found = beside.with_grown(found)
     return beside.with_places(found) if given.json is not None or given.sarif is not None else found
 
 

@@ -11,8 +11,8 @@ from urllib.parse import quote
 from xml.etree import ElementTree
 
 from abi_tools import VERSION
-from abi_tools.gate_outcomes import GONE, LEFT_OUT, NEW, Break, Outcome
-from abi_tools.shown import line_shown, lines_shown
+from abi_tools.gate_outcomes import GONE, LEFT_OUT, NEW, Break, Grown, Outcome
+from abi_tools.shown import line_shown, lines_shown, name_shown
 from abi_tools.verdicts import Verdict
 
 Json = dict[str, Any]
@@ -84,12 +84,18 @@ def _library(one: Outcome) -> Json:
     return {"name": _text(one.name), "answer": one.word, "old": _path(one.old), "new": _path(one.new), "said": line_shown(one.said),
             **{name: count if one.verdict == Verdict.YES else None for name, count in counts.items()},
             "breaks": [_break(found) for found in one.breaks], "remarks": [line_shown(remark) for remark in one.remarks],
+            "grown": [_grown(found) for found in one.grown],
             "certificate": _path(one.certificate), "report": _path(one.report), "no_report": line_shown(one.no_report)}
 
 
 def _break(found: Break) -> Json:
     place = {"file": _text(found.file), "line": found.line} if found.file else None
     return {"rule": found.rule, "name": found.name, "export": line_shown(found.export), "row": line_shown(found.row), "place": place}
+
+
+def _grown(found: Grown) -> Json:
+    return {"enumeration": line_shown(found.enumeration), "enumerators": [name_shown(name) for name in found.enumerators],
+            "exports": [line_shown(label) for label in found.exports]}
 
 
 def _xml(text: str) -> str:

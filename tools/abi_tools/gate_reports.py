@@ -12,9 +12,10 @@ from pathlib import Path
 from typing import Any, Callable, Optional, Sequence
 
 from abi_tools.faults import Fault
-from abi_tools.gate_outcomes import Break, Outcome
+from abi_tools.gate_outcomes import Break, Grown, Outcome
 from abi_tools.jobs import Failure, StepLimits, Steps
 from abi_tools.output_file import write_whole
+from abi_tools.verdicts import Verdict
 
 _SUFFIX = ".html"
 _REPORTED = (1, 2)
@@ -66,6 +67,16 @@ class Beside:
                 found[numbers[at]] = replace(found[numbers[at]], breaks=value)
         return found
 
+    def with_grown(self, outcomes: Sequence[Outcome]) -> list[Outcome]:
+        """The outcomes, each yes with the enumerations that have more enumerators than before, as far as they can be read."""
+        numbers = [number for number, one in enumerate(outcomes) if one.verdict == Verdict.YES]
+        steps = [partial(_grown, outcomes[number]) for number in numbers]
+        found = list(outcomes)
+        for at, value in Steps[tuple[Grown, ...]](self.limits, self.workers).run(steps):
+            if not isinstance(value, Failure):
+                found[numbers[at]] = replace(found[numbers[at]], grown=value)
+        return found
+
     def _placed(self, one: Outcome) -> tuple[Break, ...]:
         """The breaks of an outcome with names and places. Raises a fault if `abi-json` does not say the same ones."""
         programs = importlib.import_module("abi.programs")
@@ -78,6 +89,12 @@ class Beside:
         places = {(said.export, said.steps): said.new_place or said.old_place for said in found}
         return tuple(_with_place(known, said.name, [places.get((said.export, said.steps[:end])) for end in range(len(said.steps), -1, -1)])
                      for known, said in zip(one.breaks, found))
+
+
+def _grown(one: Outcome) -> tuple[Grown, ...]:
+    """The enumerations of a yes that have grown. Raises a fault if they cannot be read."""
+    found = importlib.import_module("abi_report.added").added_enumerators(one.old, one.new, one.text)
+    return tuple(Grown(more.enumeration, more.enumerators, more.exports) for more in found)
 
 
 def _with_place(known: Break, name: str, places: Sequence[Any]) -> Break:
