@@ -1,7 +1,9 @@
 #!/usr/bin/env bash
 # Builds real source packages of Debian in their own form, with dh_abi as the only change: a first build (no baseline yet), the same again
 # (yes), one whose public structure has one more member (no), one without -g (cannot tell), one with another soname, and one with
-# DEB_BUILD_OPTIONS=nocheck (not compared). Prints a line for each build, and ends with 1 if one of them is not as it should be.
+# DEB_BUILD_OPTIONS=nocheck (not compared). abi-packages then checks the certificate that the package of the second build ships. Last, the
+# recipe of docs/GUIDE.md stands in debian/rules in place of dh_abi: yes, and no. Prints a line for each build, and ends with 1 if one of
+# them is not as it should be.
 #
 # usage: bench/debian_builds.sh FOLDER [SOURCE..]   (default: zlib popt lz4)
 #
@@ -40,6 +42,26 @@ prepared() {
     esac
 }
 
+# by_hand SOURCE: adds the recipe of docs/GUIDE.md to the rules of the unpacked source in the current folder.
+by_hand() {
+    local soname built installed
+    case $1 in
+    zlib) soname=libz.so.1 built=$soname installed=zlib1g/lib ;;
+    popt) soname=libpopt.so.0 built=src/.libs/$soname installed=libpopt0/usr/lib ;;
+    lz4) soname=liblz4.so.1 built=lib/$soname installed=liblz4-1/usr/lib ;;
+    esac
+    installed="debian/$installed/\$(DEB_HOST_MULTIARCH)/$soname"
+    sed -i '1a include /usr/share/dpkg/architecture.mk\nexport DEB_CFLAGS_MAINT_APPEND = -fno-ipa-icf' debian/rules
+    case $1 in
+    zlib) sed -i "s|^\tdh_strip|\tabi-gate debian/abi/$soname.abi $installed\n&|" debian/rules ;;
+    lz4) sed -i -e 's/^export CFLAGS$/CFLAGS += -fno-ipa-icf\n&/' -e 's/^\tmake test/\ttrue/' debian/rules ;;
+    esac
+    {
+        [ "$1" = zlib ] || printf '\nexecute_after_dh_install:\n\tabi-gate debian/abi/%s.abi %s\n\n.PHONY: build\nbuild:\n\tdh build\n' "$soname" "$installed"
+        printf '\n.PHONY: keep-abi\nkeep-abi: build\n\tmkdir -p debian/abi\n\tabi-baseline %s debian/abi/%s.abi\n' "$built" "$soname"
+    } >>debian/rules
+}
+
 # broken SOURCE: inserts a member in a structure that callers allocate.
 broken() {
     case $1 in
@@ -47,6 +69,11 @@ broken() {
     popt) sed -i '/argDescrip;/s/$/ long inserted;/' src/popt.h ;;
     lz4) sed -i 's/^  LZ4F_frameInfo_t frameInfo;/  long inserted;\n&/' lib/lz4frame.h ;;
     esac
+}
+
+# recipe_broken SOURCE: the same break, with the recipe.
+recipe_broken() {
+    broken "$1"
 }
 
 # renamed SOURCE: gives the library another soname.
@@ -84,6 +111,20 @@ build() {
     echo "$1: $2: status $status, $result: $(grep -E "$4" "$1-$2.log" | head -n 1)"
 }
 
+# checked SOURCE FOLDER: checks the certificates of the packages in FOLDER, which is both the old and the new release.
+checked() {
+    local unpacked=$2/unpacked result="not accepted" packages
+    packages=("$2"/*.deb)
+    for package in "${packages[@]}"; do dpkg-deb -x "$package" "$unpacked"; done
+    for folder in "$unpacked"/usr/share/doc/*; do
+        [ -n "$(find "$folder/" -name '*.cert')" ] || continue
+        abi-packages --verify "$folder" "${packages[@]}" -- "${packages[@]}" >"$1-checked.log" || true
+        result=$(grep -o '^yes .*accepted certificate' "$1-checked.log" | head -n 1) || result="not accepted"
+    done
+    [ "$result" != "not accepted" ] || failed=1
+    echo "$1: certificate: $result"
+}
+
 for source in "$@"; do
     rm -rf "$source-tree" build
     profiles=()
@@ -97,9 +138,18 @@ for source in "$@"; do
     cp -a build/first/debian/abi "$source-tree/debian/abi"
     echo "$source: baselines: $(cd "$source-tree/debian/abi" && ls | paste -s -d ' ')"
     build "$source" same passes '^yes: [0-9]+ exports compared'
+    rm -rf packages && mkdir packages && mv build/*.deb packages && checked "$source" packages
     build "$source" broken fails 'dh_abi: warning: no: .* may not replace the released one; the report is '
     DEB_CFLAGS_STRIP=-g build "$source" without_g fails 'dh_abi: warning: cannot tell whether .* may replace the released one; the report is '
     build "$source" renamed fails 'cannot tell: there is no debian/abi/.*\.abi'
     DEB_BUILD_OPTIONS=nocheck build "$source" nocheck passes 'dpkg-deb: building package'
+    rm -rf "$source-tree" build
+    dpkg-source -x "$source"_*.dsc "$source-tree" >>"$source.fetched"
+    mkdir build
+    (cd "$source-tree" && by_hand "$source")
+    (cp -a "$source-tree" build/kept && cd build/kept && DEB_BUILD_PROFILES=${profiles[0]:+nobiarch} debian/rules keep-abi) >"$source-keep.log" 2>&1
+    cp -a build/kept/debian/abi "$source-tree/debian/abi"
+    build "$source" recipe passes '^yes: [0-9]+ exports compared'
+    build "$source" recipe_broken fails '^abi-gate: .* may not replace '
 done
 exit "$failed"
