@@ -57,6 +57,7 @@ def make(prefix: Path, output: Path, *options: object) -> Ended:
         (kit / "rattle" / crate).mkdir(parents=True, exist_ok=True)
         (kit / "rattle" / crate / "LICENSE-MIT").write_text(f"the licence of {crate}\n")
     (kit / "bin").mkdir(exist_ok=True)
+    (kit / "WHAT").write_text("archive a1\ncommit c2\ncompiler d3\n")
     (kit / "bin/rt").write_text(f"#!/bin/sh\ncase $1 in\ndoc) echo '{kit}/START.md' ;;\nversion) echo kit 7 ;;\nesac\n")
     (kit / "bin/rt").chmod(0o755)
     output.mkdir(exist_ok=True)
@@ -132,6 +133,7 @@ def test_the_record_says_what_the_programs_come_from(made: Path, tmp_path: Path)
     digests = {name: hashlib.sha256((made / "prefix/bin" / name).read_bytes()).hexdigest() for name in ("abi", "abi-json")}
     assert (record["version"], record["kit"], record["gate"]) == (VERSION, "kit 7", "12 passed, 0 failed")
     assert record["programs_sha256"] == digests
+    assert record["kit_made_from"] == {"archive": "a1", "commit": "c2"}
     if (ROOT / ".git").exists():
         assert record["commit"] == done("git", "-C", ROOT, "rev-parse", "HEAD").strip()
         listed = done("sh", "-c", f"cd '{ROOT}' && git ls-files -z | LC_ALL=C sort -z | xargs -0 sha256sum | sha256sum")

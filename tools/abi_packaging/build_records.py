@@ -13,6 +13,8 @@ from typing import Optional, Sequence
 
 from abi_tools.faults import Fault
 
+from abi_packaging.licences import kit_folder
+
 
 @dataclass(frozen=True)
 class Release:
@@ -46,6 +48,7 @@ def record(sources: Path, version: str, programs: Sequence[Path], gate_log: Opti
     contents = {
         "version": version,
         "kit": _kit(),
+        "kit_made_from": _kit_made_from(),
         "commit": None if commit is None else commit.decode().strip(),
         "changed_since_commit": None if changed is None else bool(changed.strip()),
         "sources_sha256": _sources_digest(sources),
@@ -61,6 +64,15 @@ def _kit() -> Optional[str]:
         return None
     ended = subprocess.run(["rt", "version"], capture_output=True, text=True, check=False)
     return ended.stdout.strip() or None if ended.returncode == 0 else None
+
+
+def _kit_made_from() -> Optional[dict[str, str]]:
+    """The archive and the commit of the kit, from its file WHAT. Kits with the same ones prove the same, whatever their labels are."""
+    folder = kit_folder()
+    if folder is None or not (folder / "WHAT").is_file():
+        return None
+    said = dict(line.split(" ", 1) for line in (folder / "WHAT").read_text(encoding="utf-8").splitlines() if " " in line)
+    return {name: said[name] for name in ("archive", "commit") if name in said}
 
 
 def _sources_digest(sources: Path) -> Optional[str]:

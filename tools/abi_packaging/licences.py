@@ -18,7 +18,7 @@ _DOCUMENTS = Path("/usr/share/doc")
 def crate_licences(sources: Path) -> Iterator[tuple[str, bytes]]:
     """The licences of the kit's crates that `crates.txt` names, each with a name for its file. Nothing if there is no kit on the PATH.
     Raises a fault if a crate of the kit has no licence."""
-    kit = _kit()
+    kit = kit_folder()
     if kit is None:
         return
     for crate in _kit_crates(sources):
@@ -29,7 +29,7 @@ def crate_licences(sources: Path) -> Iterator[tuple[str, bytes]]:
             yield f"{crate}.{path.name}", path.read_bytes()
 
 
-def _kit() -> Optional[Path]:
+def kit_folder() -> Optional[Path]:
     """The folder of the kit: the one that has the page which `rt doc` names."""
     if shutil.which("rt") is None:
         return None
