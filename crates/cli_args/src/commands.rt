@@ -11,7 +11,7 @@ use report::styles::ReportStyle;
 use std::alloc::Global;
 
 /// The arguments of `check`, which answers whether the new library may replace the old one, with a report in this style if not.
-#[derive(Clone, Copy, Debug, PartialEq, Eq)]
+#[derive(Clone, Copy)]
 pub struct CheckWords<'a> {
     /// The name of the rule file, if there is one.
     pub rules: Option<&'a str>,
@@ -24,7 +24,7 @@ pub struct CheckWords<'a> {
 }
 
 /// The arguments of `verify` and `migrate`, which check and migrate the certificate for two libraries.
-#[derive(Clone, Copy, Debug, PartialEq, Eq)]
+#[derive(Clone, Copy)]
 pub struct CertificateWords<'a> {
     /// The name of the rule file, if there is one.
     pub rules: Option<&'a str>,
@@ -37,7 +37,7 @@ pub struct CertificateWords<'a> {
 }
 
 /// The arguments of `compose`, which joins two certificates with a common middle library.
-#[derive(Clone, Copy, Debug, PartialEq, Eq)]
+#[derive(Clone, Copy)]
 pub struct ComposeWords<'a> {
     /// The name of the first library.
     pub first: &'a str,
@@ -52,7 +52,7 @@ pub struct ComposeWords<'a> {
 }
 
 /// The arguments of `layout`, which prints the layout of the structure with a tag.
-#[derive(Clone, Copy, Debug, PartialEq, Eq)]
+#[derive(Clone, Copy)]
 pub struct LayoutWords<'a> {
     /// The name of the library.
     pub library: &'a str,
@@ -62,7 +62,7 @@ pub struct LayoutWords<'a> {
 
 /// The arguments of `app`, which answers whether the new library may replace the old one for an application, with a report in this
 /// style if not.
-#[derive(Clone, Copy, Debug, PartialEq, Eq)]
+#[derive(Clone, Copy)]
 pub struct AppWords<'a> {
     /// The name of the rule file, if there is one.
     pub rules: Option<&'a str>,
@@ -77,7 +77,7 @@ pub struct AppWords<'a> {
 }
 
 /// A command with its options, and the names of its inputs as they are given.
-#[derive(Clone, Copy, Debug, PartialEq, Eq)]
+#[derive(Clone, Copy)]
 pub enum Request<'a> {
     /// Whether the new library may replace the old one.
     Check(CheckWords<'a>),
@@ -100,7 +100,7 @@ pub enum Request<'a> {
 }
 
 /// The commands.
-#[derive(Clone, Copy, Debug, PartialEq, Eq)]
+#[derive(Clone, Copy)]
 pub(crate) enum CommandName {
     Check,
     Verify,
@@ -142,7 +142,7 @@ pub(crate) fn command_named(word: &str) -> Option<CommandName>
 }
 
 /// What a request is made of, beside the rule file.
-#[derive(Clone, Copy, Debug, PartialEq, Eq)]
+#[derive(Clone, Copy)]
 pub(crate) enum Makings {
     /// The arguments.
     Words,
@@ -153,7 +153,7 @@ pub(crate) enum Makings {
 }
 
 /// What a command takes.
-#[derive(Clone, Copy, Debug)]
+#[derive(Clone, Copy)]
 pub(crate) struct Taken {
     /// Whether it takes `--rules`.
     pub rules: bool,

@@ -10,7 +10,7 @@ use clap::{Arg, ArgAction, ArgMatches, Command};
 use std::alloc::{AllocError, Global};
 
 /// Why `clap` refuses arguments.
-#[derive(Clone, Copy, Debug, PartialEq, Eq)]
+#[derive(Clone, Copy)]
 pub(crate) enum Refused {
     /// They request its help.
     Help,
@@ -21,7 +21,7 @@ pub(crate) enum Refused {
 }
 
 /// The values in a line.
-#[derive(Clone, Copy, Debug)]
+#[derive(Clone, Copy)]
 pub(crate) struct Line<'m, 'a> {
     /// The command, if one is given.
     pub command: Option<&'a str>,

@@ -11,7 +11,7 @@ use abi_base::NoMemory;
 use std::alloc::Global;
 
 /// The meaning of the arguments.
-#[derive(Clone, Copy, Debug, PartialEq, Eq)]
+#[derive(Clone, Copy)]
 pub enum ParsedArguments<'a> {
     /// A request.
     Request(Request<'a>),

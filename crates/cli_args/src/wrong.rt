@@ -15,7 +15,7 @@ use clap::error::ErrorKind;
 use std::alloc::Global;
 
 /// The options of the commands.
-#[derive(Clone, Copy, Debug, PartialEq, Eq)]
+#[derive(Clone, Copy)]
 pub enum OptionName {
     /// `--rules FILE`
     Rules,
@@ -24,7 +24,7 @@ pub enum OptionName {
 }
 
 /// What is wrong with arguments that form no request, with the argument at fault.
-#[derive(Clone, Copy, Debug, PartialEq, Eq)]
+#[derive(Clone, Copy)]
 pub enum WrongWords<'a> {
     /// No command is given.
     MissingCommand,
