@@ -29,6 +29,11 @@ fn line_at(rules: &str, number: u64) -> Option<&str> {
     None
 }
 
+// Whether a line is the head of a section.
+fn is_head(line: &str) -> bool {
+    line.trim().as_bytes().first() == Some(&b'[')
+}
+
 // Whether the line with a number, counted from 1, is in a section on types.
 fn is_of_types(rules: &str, number: u64) -> bool {
     let mut is_types = false;
@@ -38,7 +43,7 @@ fn is_of_types(rules: &str, number: u64) -> bool {
             return is_types;
         }
         left -= 1;
-        if line.trim().as_bytes().first() == Some(&b'[') {
+        if is_head(line) {
             is_types = line.contains("suppress_type");
         }
     }
@@ -59,18 +64,31 @@ fn push_quoted(text: &mut String, word: &str) -> Result<(), AllocError> {
     Ok(())
 }
 
+// The values of a property of types, or the properties if it is unknown or takes any value.
+fn allowed_values(property: &str) -> &'static str {
+    if property == "type_kind" {
+        TYPE_KINDS
+    } else if property == "accessed_through" {
+        WAYS
+    } else {
+        OF_TYPES
+    }
+}
+
+// What a section on types may have in place of a line.
+fn allowed_of_types(line: &str) -> &'static str {
+    match line.split_once('=') {
+        Some((name, _)) => allowed_values(name.trim()),
+        None => OF_TYPES,
+    }
+}
+
 // What a section may have in place of a property, or a property in place of its value.
 fn allowed_properties(rules: &str, number: u64, line: &str) -> &'static str {
-    if !is_of_types(rules, number) {
-        return OF_EXPORTS;
-    }
-    match line.split_once('=') {
-        Some((name, _)) => match name.trim() {
-            "type_kind" => TYPE_KINDS,
-            "accessed_through" => WAYS,
-            _ => OF_TYPES,
-        },
-        None => OF_TYPES,
+    if is_of_types(rules, number) {
+        allowed_of_types(line)
+    } else {
+        OF_EXPORTS
     }
 }
 

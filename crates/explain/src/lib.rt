@@ -12,6 +12,7 @@ mod files;
 mod limits;
 mod lines;
 mod notes;
+mod offsets;
 mod other_inputs;
 mod places;
 mod programs;

@@ -14,7 +14,7 @@ use commands::{File, Input};
 use std::alloc::{AllocError, Global};
 
 /// An input that is not the one that a certificate is of.
-#[derive(Clone, Copy, Debug, PartialEq, Eq)]
+#[derive(Clone, Copy)]
 pub(crate) enum OtherInput {
     /// The old library.
     Old,

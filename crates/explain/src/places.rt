@@ -2,7 +2,7 @@
 use abi_base::FaultKind;
 
 /// The unit of a fault's position.
-#[derive(Clone, Copy, Debug, PartialEq, Eq)]
+#[derive(Clone, Copy)]
 pub(crate) enum Place {
     /// The file as a whole.
     File,

@@ -9,12 +9,13 @@ use crate::constants::{
     PROGRAM_HEADER_SIZE, PT_DYNAMIC, PT_INTERP,
 };
 use crate::lines::said;
+use crate::offsets::offset_at;
 use abi_base::{NoMemory, u16_at, u32_at, u64_at};
 use std::alloc::Global;
 
 // The program header with an index.
 fn header_at(bytes: &[u8], index: u16) -> Option<&[u8]> {
-    let table = usize::try_from(u64_at(bytes, E_PHOFF)?).ok()?;
+    let table = offset_at(bytes, E_PHOFF)?;
     let start = usize::from(index) * PROGRAM_HEADER_SIZE;
     bytes.get(table..)?.get(start..start + PROGRAM_HEADER_SIZE)
 }
@@ -33,8 +34,8 @@ fn segment_of(bytes: &[u8], wanted: u32) -> Option<&[u8]> {
 // The dynamic table, by the program headers.
 fn dynamic_table(bytes: &[u8]) -> Option<&[u8]> {
     let header = segment_of(bytes, PT_DYNAMIC)?;
-    let start = usize::try_from(u64_at(header, P_OFFSET)?).ok()?;
-    let size = usize::try_from(u64_at(header, P_FILESZ)?).ok()?;
+    let start = offset_at(header, P_OFFSET)?;
+    let size = offset_at(header, P_FILESZ)?;
     bytes.get(start..)?.get(..size)
 }
 

@@ -1,10 +1,11 @@
 // Names of sections, in files whose section table may have a fault.
 use crate::constants::{E_SHOFF, E_SHSTRNDX, HEADER_SIZE, SH_LINK, SH_OFFSET, SHN_XINDEX};
-use abi_base::{text_at, u16_at, u32_at, u64_at};
+use crate::offsets::offset_at;
+use abi_base::{text_at, u16_at, u32_at};
 
 // The offset of a section's header.
 fn header_at(bytes: &[u8], index: usize) -> Option<usize> {
-    let table = usize::try_from(u64_at(bytes, E_SHOFF)?).ok()?;
+    let table = offset_at(bytes, E_SHOFF)?;
     table.checked_add(index.checked_mul(HEADER_SIZE)?)
 }
 
@@ -19,11 +20,16 @@ fn names_index(bytes: &[u8]) -> Option<usize> {
     }
 }
 
+// The bytes from the section of names on.
+fn names_in(bytes: &[u8]) -> Option<&[u8]> {
+    let offset = header_at(bytes, names_index(bytes)?)?.checked_add(SH_OFFSET)?;
+    let start = offset_at(bytes, offset)?;
+    bytes.get(start..)
+}
+
 /// The name of the section with an index, or `None` if the table or the name lies outside the file.
 pub(crate) fn section_name(bytes: &[u8], index: u64) -> Option<&[u8]> {
-    let names = header_at(bytes, names_index(bytes)?)?.checked_add(SH_OFFSET)?;
-    let start = usize::try_from(u64_at(bytes, names)?).ok()?;
     let header = header_at(bytes, usize::try_from(index).ok()?)?;
     let name = u32_at(bytes, header)?;
-    text_at(bytes.get(start..)?, u64::from(name))
+    text_at(names_in(bytes)?, u64::from(name))
 }

@@ -33,24 +33,63 @@ fn push_name(text: &mut String, bytes: &[u8], index: u64) -> Result<(), AllocErr
     }
 }
 
+// Appends the words for a fault of the part with a number, after what the part is.
+fn push_numbered(
+    text: &mut String,
+    part: &str,
+    kind: FaultKind,
+    at: u64,
+) -> Result<(), AllocError> {
+    let words = numbered_sentence(kind);
+    write!(text, "{part} {at} {words}")
+}
+
+// Appends the words for a fault of the section with an index.
+fn push_section(
+    text: &mut String,
+    kind: FaultKind,
+    at: u64,
+    bytes: &[u8],
+) -> Result<(), AllocError> {
+    let words = numbered_sentence(kind);
+    write!(text, "section {at}")?;
+    push_name(text, bytes, at)?;
+    write!(text, " {words}")
+}
+
 // Appends the words for a fault of a dynamic symbol, or of the whole table.
 fn push_symbol(text: &mut String, kind: FaultKind, at: u64) -> Result<(), AllocError> {
     match (at, whole_table_sentence(kind)) {
         (0, Some(sentence)) => text.push_str(sentence),
-        _ => write!(text, "dynamic symbol {at} {}", numbered_sentence(kind)),
+        _ => push_numbered(text, "dynamic symbol", kind, at),
     }
+}
+
+// Appends the words for a fault of an entry of the dynamic table.
+fn push_entry(text: &mut String, kind: FaultKind, at: u64) -> Result<(), AllocError> {
+    let words = numbered_sentence(kind);
+    write!(text, "entry {at} of the dynamic table {words}")
 }
 
 // Appends the words for a fault of an entry of the dynamic table, or of the whole table.
 fn push_dynamic(text: &mut String, kind: FaultKind, at: u64) -> Result<(), AllocError> {
     match (at, whole_table_sentence(kind)) {
         (0, Some(sentence)) => text.push_str(sentence),
-        _ => write!(
-            text,
-            "entry {at} of the dynamic table {}",
-            numbered_sentence(kind)
-        ),
+        _ => push_entry(text, kind, at),
     }
+}
+
+// Appends these words for a fault at an offset in a section.
+fn push_offset(text: &mut String, at: u64, section: &str, words: &str) -> Result<(), AllocError> {
+    write!(text, "offset {at:#x} of {section}: {words}")
+}
+
+// Appends the words for a fault in a line of a rule file or of a certificate.
+fn push_line(text: &mut String, fault: Fault, bytes: &[u8]) -> Result<(), AllocError> {
+    let at = fault.at;
+    let words = line_sentence(fault.kind);
+    write!(text, "line {at}: {words}")?;
+    push_allowed(text, fault, bytes)
 }
 
 // Appends the words for a fault of an input with these bytes, and its position. The bytes may be empty, if they cannot be read a
@@ -60,28 +99,16 @@ fn push_why(text: &mut String, fault: Fault, bytes: &[u8]) -> Result<(), AllocEr
     let at = fault.at;
     match place_of(kind) {
         Place::File => text.push_str(file_sentence(kind, at, bytes)),
-        Place::Section => {
-            write!(text, "section {at}")?;
-            push_name(text, bytes, at)?;
-            write!(text, " {}", numbered_sentence(kind))
-        }
+        Place::Section => push_section(text, kind, at, bytes),
         Place::Symbol => push_symbol(text, kind, at),
         Place::DynamicEntry => push_dynamic(text, kind, at),
-        Place::Definition => write!(text, "version definition {at} {}", numbered_sentence(kind)),
-        Place::Need => write!(text, "version need {at} {}", numbered_sentence(kind)),
-        Place::Info => write!(
-            text,
-            "offset {at:#x} of .debug_info: {}",
-            info_sentence(kind)
-        ),
-        Place::Abbreviations => write!(
-            text,
-            "offset {at:#x} of .debug_abbrev: the abbreviation is damaged"
-        ),
-        Place::Line => {
-            write!(text, "line {at}: {}", line_sentence(kind))?;
-            push_allowed(text, fault, bytes)
+        Place::Definition => push_numbered(text, "version definition", kind, at),
+        Place::Need => push_numbered(text, "version need", kind, at),
+        Place::Info => push_offset(text, at, ".debug_info", info_sentence(kind)),
+        Place::Abbreviations => {
+            push_offset(text, at, ".debug_abbrev", "the abbreviation is damaged")
         }
+        Place::Line => push_line(text, fault, bytes),
     }
 }
 

@@ -25,6 +25,20 @@ pub(crate) fn push_names(
     Ok(())
 }
 
+// Appends a tag, whether one is declared, and the tags that are similar.
+fn push_tag(
+    words: &mut String,
+    tag: &str,
+    is_declared: bool,
+    near: &[&[u8]],
+) -> Result<(), AllocError> {
+    words.push_str(tag)?;
+    if is_declared {
+        words.push_str(" that is defined; one is declared")?;
+    }
+    push_names(words, "; tags near it: ", near)
+}
+
 // The words for an unknown tag, and the tags that are similar.
 fn words_of(
     alloc: Global,
@@ -33,11 +47,7 @@ fn words_of(
     near: &[&[u8]],
 ) -> Result<String, AllocError> {
     let mut words = String::from_str(alloc, "its exports reach no structure with the tag ")?;
-    words.push_str(tag)?;
-    if is_declared {
-        words.push_str(" that is defined; one is declared")?;
-    }
-    push_names(&mut words, "; tags near it: ", near)?;
+    push_tag(&mut words, tag, is_declared, near)?;
     Ok(words)
 }
 
@@ -58,7 +68,7 @@ pub fn tag_sentence(
 }
 
 /// A type with a tag that is no structure.
-#[derive(Clone, Copy, Debug, PartialEq, Eq)]
+#[derive(Clone, Copy)]
 pub enum TaggedType {
     /// A union.
     Union,

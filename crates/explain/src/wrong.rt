@@ -32,10 +32,10 @@ fn near_command(alloc: Global, word: &str) -> Result<Option<&'static str>, Alloc
     if word.len() > LONGEST {
         return Ok(None);
     }
-    for (name, _) in COMMANDS {
+    for (name, _) in COMMANDS.iter() {
         let edits = generic_levenshtein(alloc, word.as_bytes(), name.as_bytes())?;
         if edits < least {
-            found = Some(name);
+            found = Some(*name);
             least = edits;
         }
     }
@@ -44,9 +44,9 @@ fn near_command(alloc: Global, word: &str) -> Result<Option<&'static str>, Alloc
 
 // The arguments that a command takes.
 fn words_behind(command: &str) -> &'static str {
-    for (name, words) in COMMANDS {
-        if name == command {
-            return words;
+    for (name, words) in COMMANDS.iter() {
+        if *name == command {
+            return *words;
         }
     }
     "other words"
