@@ -48,7 +48,7 @@ pub enum AppJudged {
 }
 
 /// Why `app` gives no verdict.
-#[derive(Clone, Copy, Debug)]
+#[derive(Clone, Copy)]
 pub enum NotJudged {
     /// The first fault of the application.
     App(Fault),

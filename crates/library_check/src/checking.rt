@@ -21,7 +21,7 @@ use std::alloc::Global;
 use suppression_text::{Rules, read_rules};
 
 /// Why `check` gives no verdict.
-#[derive(Clone, Copy, Debug)]
+#[derive(Clone, Copy)]
 pub enum Unchecked {
     /// The first fault of the old library.
     Old(Fault),

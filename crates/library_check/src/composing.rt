@@ -57,7 +57,7 @@ pub enum Composed {
 }
 
 /// Why `compose` gives no verdict.
-#[derive(Clone, Copy, Debug)]
+#[derive(Clone, Copy)]
 pub enum Uncomposed {
     /// The first fault of the first library.
     First(Fault),

@@ -20,7 +20,7 @@ use std::alloc::Global;
 use suppression_text::Rules;
 
 /// What `verify` says about a readable certificate.
-#[derive(Clone, Copy, Debug)]
+#[derive(Clone, Copy)]
 pub enum Verified {
     /// The certificate proves that the new library may replace the old one.
     Accepted,
@@ -29,7 +29,7 @@ pub enum Verified {
 }
 
 /// Why `verify` gives no verdict.
-#[derive(Clone, Copy, Debug)]
+#[derive(Clone, Copy)]
 pub enum Unverified {
     /// The first fault of the old library.
     Old(Fault),
