@@ -90,7 +90,7 @@ fn marked(alloc: Global, found: &HashSet<usize>, count: usize) -> Result<Vec<boo
 }
 
 /// For each export of a library, whether an import binds to it. An import without a version binds like an export without a version.
-/// One with a version binds by name and version if its file is the library's soname. Each import is looked up in maps of the
+/// One with a version binds by name and version if its file is the library's soname. Each import is looked up in orders of the
 /// exports, so its version and its file are compared, whose bytes `read_app` bounds for all imports together.
 pub fn used(
     alloc: Global,

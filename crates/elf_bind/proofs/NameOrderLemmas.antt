@@ -1,5 +1,5 @@
 -- A name with its code compares equal exactly to an equal name with its own.
-use Rattle.std.proofs.Common.{◌≡◌, ℕ, List, Bool, true, false, refl, sym, ◌∙◌, ap}
+use Rattle.std.proofs.Common.{◌≡◌, ℕ, List, refl, sym, ◌∙◌, ap}
 use Rattle.std.specs.Prelude.{◌&&◌, ◌==◌}
 use Rattle.std.specs.Cmp.{unsigned_ties, unsigned_Decides, both_tied}
 use Rattle.std.specs.Cmp.Lexicographic.{slice_cmp, lists_ties}

@@ -1,20 +1,23 @@
 -- To look at the exports of one name, or of one name and one version, is to look at all exports.
-use Rattle.std.proofs.Common.{◌≡◌, ◌<◌, ◌≤◌, ◌+◌, ℕ, zero, suc, Bool, true, false, cond, ◌&&◌, List, [], ◌∷◌, slice_get, Option, Some, None, refl, sym, ◌∙◌, ap, subst, inl, inr, ◌⊎◌, arith}
-use Rattle.std.specs.Prelude.{◌==◌, find, position, count_by}
+use Rattle.std.proofs.Common.{◌≡◌, ◌<◌, ◌≤◌, ◌+◌, ℕ, zero, suc, Bool, true, false, cond, List, [], ◌∷◌, slice_get, Option, Some, None, refl, sym, ◌∙◌, ap, subst, inl, inr, ◌⊎◌, arith}
+use Rattle.std.specs.Prelude.{◌==◌, ◌||◌, find, is_some, position, count_by}
+use Rattle.std.specs.BTreeMap.{BTreeMap, get}
+use Rattle.std.specs.Cmp.{unsigned_ties}
 use Rattle.std.specs.List.{position_from}
 use Rattle.std.specs.Option.{option_or}
-use Rattle.std.proofs.lemmas.Bool.{cases_Bool, and_parts}
+use Rattle.std.specs.Ordering.{nat_cmp, is_eq}
+use Rattle.std.proofs.lemmas.Bool.{cases_Bool, and_parts, eqb-true}
 use Rattle.std.proofs.lemmas.Iterator.Adapters.{position_from-zero}
 use Rattle.std.proofs.lemmas.List.Sums.{sum_by-cons}
 use Rattle.std.proofs.lemmas.Option.{slice_get-map, slice_get_within, slice_get-get_or, get_or_from_slice_get, none-some, same_Some}
 use Rattle.std.proofs.lemmas.Slice.Eq.{bytes_eq-Decides}
 use Rattle.abi_base.proofs.lemmas.Bools.{and_left_true, and_of_true}
 use Rattle.abi_types.specs.Exports.{PlainExport}
-use Rattle.abi_types.specs.Names.{IsNamed, AreNamed}
+use Rattle.abi_types.specs.Names.{IsNamed, AreNamed, name_at}
 use Rattle.abi_types.specs.Versions.{IsVersioned, AreVersioned}
-use Rattle.elf_bind.specs.Binding.{is_named, has_version, has_first_version, is_default_version, only_default_version}
+use Rattle.elf_bind.specs.Binding.{is_named, has_version, has_first_version, is_default_version}
 use Rattle.elf_bind.specs.Exports.{same_name}
-use Rattle.elf_bind.specs.Named.{passes_at, some_version_among}
+use Rattle.elf_bind.specs.Named.{passes_at, some_version_among, some_version_of, bind_unversioned, AreAnswers}
 
 pub ruleset reads = (slice_get-map)
 
@@ -191,13 +194,60 @@ same_choice x x' y y' n n' p q r = rw (p, q, r) refl
 
 -- what an export without a version binds to among the exports of its name is what it binds to among all
 pub some_version_is : (exports : List PlainExport) (name : List ℕ) (places : List ℕ) → AreNamed exports name places
-    → some_version_among name places exports ≡ option_or (position (has_first_version name) exports) (only_default_version name exports)
+    → some_version_among name places exports ≡ some_version_of name exports
 some_version_is exports name places named =
     let find_by = find_named exports name places named in
     same_choice _ _ _ _ _ _
     (find_by (has_first_version name) (λ x h. and_left_true _ _ h))
     (count_named exports name places named (is_default_version name) (λ x h. and_left_true _ _ (and_left_true _ _ h)))
     (find_by (is_default_version name) (λ x h. and_left_true _ _ (and_left_true _ _ h)))
+
+-- ---- the answers that are kept
+
+module _ (offered : List PlainExport) (name : List ℕ) (places : List ℕ) (named : AreNamed offered name places) (first : ℕ) (at : Some first ≡ slice_get places 0) where
+  -- the first of the positions is that of an export of the name
+  first_named : name_at offered first ≡ name
+  first_named =
+      let is : IsNamed offered name first = (named.exact first).0 (0, slice_get_within places 0 first (sym at), get_or_from_slice_get places 0 first first (sym at)) in
+      let there : slice_get offered first ≡ Some is.exported = is.at in
+      let here : name_at offered first ≡ is.exported.name = rw there refl in
+      here ∙ is.named
+
+  module _ (answers : BTreeMap ℕ (Option ℕ)) (known : AreAnswers answers offered) (answer : Option ℕ) where
+    pub answer_known : Some answer ≡ get nat_cmp answers first → answer ≡ some_version_of name offered
+    answer_known is = known.each first answer (sym is) ∙ ap (λ (n : List ℕ). some_version_of n offered) first_named
+
+    pub answers_more : answer ≡ some_version_of name offered → (next : BTreeMap ℕ (Option ℕ))
+        → ((q : ℕ) → get nat_cmp next q ≡ cond (is_eq (nat_cmp first q)) (Some answer) (get nat_cmp answers q)) → AreAnswers next offered
+    answers_more is next adds = record {
+      each = λ k given has. elim (cases_Bool (is_eq (nat_cmp first k))) [
+        | inl same ↦
+            let new : get nat_cmp next k ≡ Some answer = adds k ∙ ap (λ (b : Bool). cond b (Some answer) (get nat_cmp answers k)) same in
+            let place : first ≡ k = eqb-true first k (unsigned_ties first k ∙ same) in
+            same_Some given answer (sym has ∙ new) ∙ is ∙ ap (λ (n : List ℕ). some_version_of n offered) (sym first_named) ∙ ap (λ (p : ℕ). some_version_of (name_at offered p) offered) place
+        | inr other ↦
+            let old : get nat_cmp next k ≡ get nat_cmp answers k = adds k ∙ ap (λ (b : Bool). cond b (Some answer) (get nat_cmp answers k)) other in
+            known.each k given (sym old ∙ has)
+      ];
+    }
+
+-- ---- what an export binds to, where one of its name and version is there and where none is
+
+module _ (offered : List PlainExport) (name : List ℕ) where
+  abbrev bind_by : Option (List ℕ) → Option ℕ
+  bind_by version = cond (is_some version) (position (has_version name version) offered) (bind_unversioned name offered)
+
+  pub binds_exactly : (version : Option (List ℕ)) (place : Option ℕ) → place ≡ position (has_version name version) offered → (is_some place || is_some version) ≡ true → place ≡ bind_by version
+  binds_exactly (Some v) place is sure = is
+  binds_exactly None (Some k) is sure = rw (← is) refl
+  binds_exactly None None is sure = absurd cc
+
+  pub binds_otherwise : (version : Option (List ℕ)) (place other : Option ℕ) → place ≡ position (has_version name version) offered → (is_some place || is_some version) ≡ false
+      → other ≡ some_version_of name offered → other ≡ bind_by version
+  binds_otherwise (Some v) None other is none found = absurd cc
+  binds_otherwise (Some v) (Some k) other is none found = absurd cc
+  binds_otherwise None (Some k) other is none found = absurd cc
+  binds_otherwise None None other is none found = found ∙ rw (← is) refl
 
 -- ---- the exports of one name and one version
 

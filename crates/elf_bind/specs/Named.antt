@@ -1,7 +1,10 @@
 -- Binding among the positions of the exports of one name.
-use Rattle.std.specs.Prelude.{ℕ, ◌==◌, Bool, false, if◌then◌else◌, List, slice_get, find, position, count_by, Option, None}
+use Rattle.std.specs.Prelude.{◌≡◌, ℕ, ◌==◌, Bool, false, if◌then◌else◌, List, slice_get, find, position, count_by, Option, Some, None}
+use Rattle.std.specs.BTreeMap.{BTreeMap, get}
 use Rattle.std.specs.Option.{option_or, option_map_or}
+use Rattle.std.specs.Ordering.{nat_cmp}
 use Rattle.abi_types.specs.Exports.{PlainExport}
+use Rattle.abi_types.specs.Names.{name_at}
 use Rattle.elf_bind.specs.Binding.{has_version, has_first_version, is_default_version, only_default_version}
 
 -- an export stands at a position and passes a test
@@ -17,6 +20,14 @@ only_default_version_among name places offered =
 abbrev pub some_version_among : List ℕ → List ℕ → List PlainExport → Option ℕ
 some_version_among name places offered = option_or (find (passes_at (has_first_version name) offered) places) (only_default_version_among name places offered)
 
+-- what such an export binds to among all exports
+abbrev pub some_version_of : List ℕ → List PlainExport → Option ℕ
+some_version_of name offered = option_or (position (has_first_version name) offered) (only_default_version name offered)
+
 -- what an export of this name without a version binds to
 abbrev pub bind_unversioned : List ℕ → List PlainExport → Option ℕ
-bind_unversioned name offered = option_or (position (has_version name None) offered) (option_or (position (has_first_version name) offered) (only_default_version name offered))
+bind_unversioned name offered = option_or (position (has_version name None) offered) (some_version_of name offered)
+
+-- each answer that stands under a position is that for the name of the export there
+pub record AreAnswers (answers : BTreeMap ℕ (Option ℕ)) (offered : List PlainExport) : Type 0 where
+  pub each : (k : ℕ) (answer : Option ℕ) → get nat_cmp answers k ≡ Some answer → answer ≡ some_version_of (name_at offered k) offered

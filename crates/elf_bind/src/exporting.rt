@@ -1,18 +1,29 @@
 // The export that a symbol is.
-ghost use Rattle.std.specs.Prelude.{◌≡◌};
-ghost use Rattle.std.specs.Option.{option_map};
+ghost use Rattle.std.specs.Prelude.{◌≡◌, ◌↔◌, IsTrue};
+ghost use Rattle.std.specs.Option.{option_copied, option_map};
 ghost use Rattle.abi_types.specs.Plain.{plain_export};
 ghost use Rattle.elf.specs.symbols.Plain.{plain_symbol};
 ghost use Rattle.elf.specs.versions.Plain.{plain_version};
 ghost use Rattle.elf_bind.specs.Exports as spec;
 
-use crate::bind_one::same_name;
 use abi_types::{Export, SymbolKind};
 use elf::constants::{
     SHN_ABS, STT_COMMON, STT_FUNC, STT_GNU_IFUNC, STT_OBJECT, STT_TLS, VER_NDX_LOCAL,
 };
 use elf::symbols::Symbol;
 use elf::versions::Version;
+
+/// Whether two names are equal, or both are missing.
+pub fn same_name(one: Option<&[u8]>, other: Option<&[u8]>) -> bool
+    ensures same { result ≡ spec.same_name (option_copied one.entry) (option_copied other.entry) }
+    ensures equal { IsTrue result ↔ (option_copied one.entry ≡ option_copied other.entry) }
+{
+    match (one, other) {
+        (None, None) => true,
+        (Some(one), Some(other)) => one == other,
+        _ => false,
+    }
+}
 
 // What a symbol is, by its type.
 fn kind_of(kind: u8) -> SymbolKind

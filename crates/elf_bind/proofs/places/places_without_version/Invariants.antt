@@ -1,8 +1,0 @@
-use Rattle.std.proofs.Common.{◌≡◌, ℕ, List, None, take, position}
-use Rattle.abi_types.specs.Plain.{plain_exports}
-use Rattle.elf_bind.specs.Binding.{has_version}
-use Rattle.elf_bind.specs.NameTrees.{place_under}
-use Rattle.elf_bind.proofs.places.places_without_version.Given as goal
-
-abbrev pub invariant-loop-place : goal.invariant-loop-place
-invariant-loop-place l = (q : List ℕ) → place_under l.places q ≡ position (has_version q None) (take l.place (plain_exports l.fn.offered))
