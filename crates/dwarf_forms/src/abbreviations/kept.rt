@@ -1,6 +1,7 @@
 // The abbreviations of a unit, by code.
-ghost use Rattle.std.specs.Prelude.{◌≡◌, ◌-◌, ◌^◌, [], ◌∷◌, ◌++◌, min, None, OnOk};
+ghost use Rattle.std.specs.Prelude.{◌≡◌, ◌-◌, ◌^◌, [], ◌∷◌, ◌++◌, min, None, IfErr, OnOk};
 ghost use Rattle.std.specs.Option.{option_copied};
+ghost use Rattle.abi_base.specs.declared.fault.NoMemory.TheVariants.{Allocation};
 ghost use Rattle.dwarf_forms.specs.abbreviations.Abbrevs.{abbrev_of};
 ghost use Rattle.dwarf_forms.specs.abbreviations.LeastBytes.{least_bytes_in, least_bytes_of};
 ghost use Rattle.dwarf_forms.specs.abbreviations.Places.{Placed};
@@ -106,7 +107,8 @@ impl Table {
     // Appends an abbreviation with a new code. After `NoMemory` the table is useless.
     pub(crate) fn push(&mut self, alloc: Global, made: Abbrev) -> Result<(), NoMemory>
         requires { abbrev_of self.old made.code ≡ None }
-        ensures { OnOk result (self.new ≡ self.old ++ made ∷ []) }
+        ensures pushed { OnOk result (self.new ≡ self.old ++ made ∷ []) }
+        ensures named { IfErr result (λ e. e ≡ Allocation) }
     {
         let place = self.abbrevs.as_slice().len();
         if own_place(made.code) != place {

@@ -1,8 +1,9 @@
 // Reads the abbreviation table at an offset.
-ghost use Rattle.std.specs.Prelude.{◌≡◌, ◌≤◌, ◌<◌, ◌+◌, [], length, IfOk, IfSome, IfNone, Ok, Some, slice_get, ◌==◌};
+ghost use Rattle.std.specs.Prelude.{◌≡◌, ◌≤◌, ◌<◌, ◌+◌, [], length, IfOk, IfErr, IfSome, IfNone, Ok, Some, slice_get, ◌==◌};
 ghost use Rattle.std.specs.List.{list_any};
 ghost use Rattle.std.specs.Option.{option_map};
-ghost use Rattle.abi_base.specs.Outcome.{Judges};
+ghost use Rattle.abi_base.specs.declared.fault.NoMemory.TheVariants.{Allocation};
+ghost use Rattle.abi_base.specs.Outcome.{Judges, OnPast};
 ghost use Rattle.abi_base.specs.Runs.{put_front};
 ghost use Rattle.abi_base.specs.Leb.{uleb_at};
 ghost use Rattle.dwarf_forms.specs.abbreviations.Abbrevs.{plain_pair, short_number_of, short_pair_at, spec_step, specs_at, specs_run, abbrev_step, table_run, children_of, implicit_at, ReadsAbbrev};
@@ -142,7 +143,8 @@ pub fn next_spec(bytes: &[u8], at: usize) -> Option<(Spec, usize)>
 // The attribute specifications of an abbreviation and the offset after them, or None where they cannot be read.
 #[tactic(auto, using(crate::proofs::abbreviations_lemmas::AbbrevsLemmas::specs_more, crate::proofs::abbreviations_lemmas::AbbrevsLemmas::specs_end))]
 fn specs_in(alloc: Global, bytes: &[u8], at: usize) -> Result<Option<(List<Spec>, usize)>, NoMemory>
-    ensures { IfOk result (λ r. r ≡ specs_at bytes.now at) }
+    ensures read { IfOk result (λ r. r ≡ specs_at bytes.now at) }
+    ensures named { IfErr result (λ e. e ≡ Allocation) }
 {
     let mut specs = List::of(Vec::with_capacity(alloc, USUAL_PAIRS)?);
     let mut place = at;
@@ -184,7 +186,8 @@ fn next_abbrev(
     at: usize,
     seen: &Table,
 ) -> Result<Option<(Abbrev, usize)>, Refusal>
-    ensures { ReadsAbbrev bytes.now at seen.now result }
+    ensures read { ReadsAbbrev bytes.now at seen.now result }
+    ensures past { IfErr result (λ e. OnPast e (λ l. ⊥)) }
 {
     let fault = Refusal::Fault(Fault {
         kind: FaultKind::Abbrev,
@@ -231,6 +234,7 @@ fn next_abbrev(
 pub fn table(alloc: Global, bytes: &[u8], at: DebugAbbrevOffset) -> Result<Table, Refusal>
     ensures judged { Judges result (table_run bytes.now at).end }
     ensures abbrevs { IfOk result (λ t. t ≡ (table_run bytes.now at).items) }
+    ensures past { IfErr result (λ e. OnPast e (λ l. ⊥)) }
 {
     let mut table = Table::new(alloc);
     let mut place = at.get() as usize;
