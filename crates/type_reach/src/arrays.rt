@@ -1,7 +1,9 @@
 // The number of elements of an array.
-ghost use Rattle.std.specs.Prelude.{◌≡◌, ◌<◌, length, map, All, IfOk};
+ghost use Rattle.std.specs.Prelude.{◌≡◌, ◌<◌, length, map, All, IfErr, IfOk};
+ghost use Rattle.abi_base.specs.declared.fault.NoMemory.TheVariants.{Allocation};
 ghost use Rattle.type_reach.specs.Facts as spec;
 
+use crate::references::children_with;
 use crate::values::{counted_to, natural_of};
 use abi_base::NoMemory;
 use abi_base::dwarf::{DW_AT_count, DW_AT_upper_bound, DW_TAG_subrange_type};
@@ -40,9 +42,10 @@ fn product(dwarf: &Dwarf, subranges: &[EntryNumber]) -> u64
 #[tactic(auto, unfolding(crate::specs::Facts::array_count, crate::specs::References::tagged_children))]
 pub(crate) fn array_count(alloc: Global, dwarf: &Dwarf, e: EntryNumber) -> Result<u64, NoMemory>
     requires { e < length dwarf.now.tree.entries }
-    ensures { IfOk result (λ count. count ≡ spec.array_count dwarf.now.tree e) }
+    ensures count { IfOk result (λ count. count ≡ spec.array_count dwarf.now.tree e) }
+    ensures named { IfErr result (λ e. e ≡ Allocation) }
 {
-    let subranges = dwarf.tagged(alloc, e, DW_TAG_subrange_type)?;
+    let subranges = children_with(alloc, dwarf, e, DW_TAG_subrange_type)?;
     if subranges.is_empty() {
         return Ok(0);
     }

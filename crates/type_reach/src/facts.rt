@@ -1,5 +1,6 @@
 // The facts of a type, computed from those of the types that it holds by value.
-ghost use Rattle.std.specs.Prelude.{◌≡◌, ◌<◌, ◌≤◌, ◌+◌, length, map, drop, All, Some, IfOk, IfSome};
+ghost use Rattle.std.specs.Prelude.{◌≡◌, ◌<◌, ◌≤◌, ◌+◌, length, map, drop, All, Some, IfErr, IfOk, IfSome};
+ghost use Rattle.abi_base.specs.declared.fault.NoMemory.TheVariants.{Allocation};
 ghost use Rattle.abi_base.specs.Limits.{depth_limit};
 ghost use Rattle.type_reach.specs.References as references_spec;
 ghost use Rattle.type_reach.specs.Facts.{rank_in, weight_in, first_of, size_for, count_for, weight_for, core_for, aggregate_for, rooms_for, align_from, members_with, member_align, most, span_in, beyond_in, facts_from, IsSpanNear};
@@ -174,7 +175,8 @@ fn count(
     facts: &[Facts],
 ) -> Result<u64, NoMemory>
     requires { e < length dwarf.now.tree.entries }
-    ensures { IfOk result (λ count. count ≡ count_for role dwarf.now.tree e facts.now) }
+    ensures count { IfOk result (λ count. count ≡ count_for role dwarf.now.tree e facts.now) }
+    ensures named { IfErr result (λ e. e ≡ Allocation) }
 {
     let one = first(facts);
     match role {
@@ -286,6 +288,7 @@ pub(crate) fn combine(
     requires near { All IsSpanNear facts.now }
     ensures is { IfOk result (λ x. x ≡ facts_from dwarf.now (Some e) facts.now) }
     ensures near { IfOk result IsSpanNear }
+    ensures named { IfErr result (λ e. e ≡ Allocation) }
 {
     let role = role_of(dwarf, e);
     let members = members_among(dwarf, e, role, parts);

@@ -1,8 +1,9 @@
 // Computes the facts of all found entries, each once, after those of the types that it holds by value.
-ghost use Rattle.std.specs.Prelude.{◌≡◌, ◌<◌, ◌≤◌, ◌+◌, ℕ, List, Some, length, slice_get, slice_set, All, Contains, IfOk, IfSome, IfNone, OnOk, IsPermutation};
+ghost use Rattle.std.specs.Prelude.{◌≡◌, ◌<◌, ◌≤◌, ◌+◌, ℕ, List, Some, length, slice_get, slice_set, All, Contains, IfErr, IfOk, IfSome, IfNone, OnOk, IsPermutation};
 ghost use Rattle.std.specs.List.Sorted.{IsNonDecreasing};
+ghost use Rattle.abi_base.specs.declared.fault.NoMemory.TheVariants.{Allocation};
 ghost use Rattle.abi_base.specs.Limits.{depth_limit};
-ghost use Rattle.abi_base.specs.Outcome.{Judges};
+ghost use Rattle.abi_base.specs.Outcome.{Judges, OnPast};
 ghost use Rattle.type_reach.specs.Reached.{IsWalk};
 ghost use Rattle.type_reach.specs.ByValue.{StepsOn, IsNoDeeper, IsClosed, IsTooDeep};
 ghost use Rattle.type_reach.specs.TypeReferences.{AreTypeReferences};
@@ -69,6 +70,7 @@ fn learn(
     ensures near { IfOk result (λ r. IfSome r IsSpanNear) }
     ensures few { IfOk result (λ r. IfSome r (λ x. IsNoDeeper types.now.dwarf.now.tree budget ty)) }
     ensures many { IfOk result (λ r. IfNone r (StepsOn types.now.dwarf.now.tree (budget + 1) ty)) }
+    ensures named { IfErr result (λ e. e ≡ Allocation) }
 {
     let e = match ty {
         None => return Ok(Some(VOID)),
@@ -100,6 +102,7 @@ fn learn(
 pub fn in_order(alloc: Global, found: &ReachedEntries) -> Result<Vec<EntryNumber>, NoMemory>
     ensures same { IfOk result (λ order. IsPermutation found.now order.items) }
     ensures order { IfOk result (λ order. IsNonDecreasing order.items) }
+    ensures named { IfErr result (λ e. e ≡ Allocation) }
 {
     let mut order = Vec::with_capacity(alloc, found.len())?;
     'found: for number in 0..found.len() {
@@ -123,6 +126,7 @@ fn find_deep(
     ensures len { OnOk result (length known.new.items ≡ length types.now.found.now) }
     ensures first { IfOk result (λ r. IfSome r (λ e. IsFirstTooDeep types.now.dwarf.now.tree types.now.found.now e)) }
     ensures none { IfOk result (λ r. IfNone r ((e : ℕ) → Contains types.now.found.now e → IsTooDeep types.now.dwarf.now.tree (Some e) → ⊥)) }
+    ensures named { IfErr result (λ e. e ≡ Allocation) }
 {
     let order = in_order(alloc, types.found)?;
     'order: for k in 0..order.len() {
@@ -145,7 +149,8 @@ fn collect(
     requires known { AreFacts types.now.dwarf.now types.now.found.now known.old.items }
     requires len { length known.old.items ≡ length types.now.found.now }
     requires shallow { (e : ℕ) → Contains types.now.found.now e → IsTooDeep types.now.dwarf.now.tree (Some e) → ⊥ }
-    ensures { IfOk result (λ facts. AreAllFacts types.now.dwarf.now types.now.found.now facts.items) }
+    ensures facts { IfOk result (λ facts. AreAllFacts types.now.dwarf.now types.now.found.now facts.items) }
+    ensures named { IfErr result (λ e. e ≡ Allocation) }
 {
     let mut facts = Vec::with_capacity(alloc, types.found.len())?;
     'found: for number in 0..types.found.len() {
@@ -170,6 +175,7 @@ pub fn learn_all(
     requires leads { AreTypeReferences dwarf.now.tree found.now leads.now }
     ensures facts { IfOk result (λ facts. AreAllFacts dwarf.now found.now facts.items) }
     ensures judged { (roots : List ℕ) → ((r : ℕ) → Contains roots r → r < length dwarf.now.tree.entries) → IsWalk dwarf.now.tree roots found.now → Judges result (depth_fault dwarf.now.tree roots) }
+    ensures named { IfErr result (λ e. OnPast e (λ _. ⊥)) }
 {
     let types = FoundTypes {
         dwarf,

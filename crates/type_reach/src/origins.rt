@@ -1,6 +1,7 @@
 // The entries from which functions take their parameters. Many functions may share one; the entries below it are looked up once.
-ghost use Rattle.std.specs.Prelude.{◌≡◌, ◌<◌, ℕ, if◌then◌else◌, ◌==◌, length, Some, None, IfSome, OnOk};
+ghost use Rattle.std.specs.Prelude.{◌≡◌, ◌<◌, ℕ, if◌then◌else◌, ◌==◌, length, Some, None, IfSome, OnOk, IfErr};
 ghost use Rattle.std.specs.Option.{option_map_or, option_or};
+ghost use Rattle.abi_base.specs.declared.fault.NoMemory.TheVariants.{Allocation};
 ghost use Rattle.type_reach.specs.declared.role.Role.TheVariants as roles;
 ghost use Rattle.type_reach.specs.References as spec;
 ghost use Rattle.type_reach.specs.Origins.{is_some_entry, number_under};
@@ -61,7 +62,8 @@ impl Origins {
         origin: Option<EntryNumber>,
         number: usize,
     ) -> Result<(), NoMemory>
-        ensures { OnOk result ((b : ℕ) → number_under self.new b ≡ option_or (number_under self.old b) (if is_some_entry b origin then Some number else None)) }
+        ensures numbers { OnOk result ((b : ℕ) → number_under self.new b ≡ option_or (number_under self.old b) (if is_some_entry b origin then Some number else None)) }
+        ensures named { IfErr result (λ e. e ≡ Allocation) }
     {
         if let Some(body) = origin {
             if !self.numbers.contains_key(&body) {

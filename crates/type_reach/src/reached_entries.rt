@@ -1,7 +1,8 @@
 // Found entries, numbered by offset.
-ghost use Rattle.std.specs.Prelude.{◌≡◌, ◌<◌, ◌^◌, length, nat_eq, position, slice_get, Contains, Some, IfOk, IfSome, IfNone};
+ghost use Rattle.std.specs.Prelude.{◌≡◌, ◌<◌, ◌^◌, length, nat_eq, position, slice_get, Contains, Some, IfErr, IfOk, IfSome, IfNone};
 ghost use Rattle.std.specs.List.{IsDistinct};
 ghost use Rattle.std.specs.List.Sorted.{IsNonDecreasing};
+ghost use Rattle.abi_base.specs.declared.fault.NoMemory.TheVariants.{Allocation};
 ghost use Rattle.type_reach.specs.VisitedEntries.{marked_places};
 
 use crate::searches::{BETWEEN_HINTS, hint_for, place_near};
@@ -38,7 +39,8 @@ impl ReachedEntries {
         room: usize,
     ) -> Result<ReachedEntries, NoMemory>
         requires { length marks.now < 2 ^ 32 }
-        ensures { IfOk result (λ found. found ≡ marked_places marks.now) }
+        ensures found { IfOk result (λ found. found ≡ marked_places marks.now) }
+        ensures named { IfErr result (λ e. e ≡ Allocation) }
     {
         let mut entries = Vec::with_capacity(alloc, room)?;
         let mut hints = Vec::with_capacity(alloc, marks.len() / BETWEEN_HINTS + 1)?;

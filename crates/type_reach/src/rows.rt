@@ -1,5 +1,6 @@
 // Rows of items, stored one after the other in one list.
-ghost use Rattle.std.specs.Prelude.{◌≡◌, ◌<◌, ◌≤◌, [], ◌∷◌, ◌++◌, length, slice_get, slice_index_or, Some, IfOk, OnOk};
+ghost use Rattle.std.specs.Prelude.{◌≡◌, ◌<◌, ◌≤◌, [], ◌∷◌, ◌++◌, length, slice_get, slice_index_or, Some, IfErr, IfOk, OnOk};
+ghost use Rattle.abi_base.specs.declared.fault.NoMemory.TheVariants.{Allocation};
 
 use abi_base::NoMemory;
 use std::alloc::Global;
@@ -35,7 +36,8 @@ fn begin(ends: &[usize], number: usize) -> usize
 impl<T> Rows<T> {
     /// No rows. The capacity for this many ends only saves time.
     pub fn with_capacity(alloc: Global, rows: usize) -> Result<Rows<T>, NoMemory>
-        ensures { IfOk result (λ rows. rows ≡ []) }
+        ensures rows { IfOk result (λ rows. rows ≡ []) }
+        ensures named { IfErr result (λ e. e ≡ Allocation) }
     {
         let ends = Vec::with_capacity(alloc, rows)?;
         Ok(Rows {
@@ -48,7 +50,8 @@ impl<T> Rows<T> {
     pub fn push(&mut self, row: &[T]) -> Result<(), NoMemory>
     where
         T: Copy,
-        ensures { OnOk result (self.new ≡ self.old ++ row.now ∷ []) }
+        ensures row { OnOk result (self.new ≡ self.old ++ row.now ∷ []) }
+        ensures named { IfErr result (λ e. e ≡ Allocation) }
     {
         let before = self.items.len();
         self.items.extend_from_slice(row)?;

@@ -1,5 +1,6 @@
 // The facts that remain in memory after all types are judged.
-ghost use Rattle.std.specs.Prelude.{◌≡◌, Contains, Some, slice_get, IfOk, IfSome};
+ghost use Rattle.std.specs.Prelude.{◌≡◌, Contains, Some, slice_get, IfErr, IfOk, IfSome};
+ghost use Rattle.abi_base.specs.declared.fault.NoMemory.TheVariants.{Allocation};
 ghost use Rattle.type_reach.specs.Facts.{AreAllFacts, facts_of};
 ghost use Rattle.type_reach.specs.Summaries.{AreSummaries};
 ghost use Rattle.type_reach.specs.Summaries as spec;
@@ -50,7 +51,8 @@ pub fn summaries_of(
     facts: &[Facts],
 ) -> Result<Vec<Summary>, NoMemory>
     requires { AreAllFacts dwarf.now found.now facts.now }
-    ensures { IfOk result (λ summaries. AreSummaries dwarf.now found.now summaries.items) }
+    ensures summaries { IfOk result (λ summaries. AreSummaries dwarf.now found.now summaries.items) }
+    ensures named { IfErr result (λ e. e ≡ Allocation) }
 {
     let mut summaries = Vec::with_capacity(alloc, facts.len())?;
     'facts: for k in 0..facts.len() {

@@ -1,9 +1,11 @@
 // The types to which found entries lead, stored once.
-ghost use Rattle.std.specs.Prelude.{◌≡◌, ◌<◌, ◌+◌, ◌++◌, ◌^◌, true, length, slice_get, slice_index_or, All, Some, IfOk, OnOk, IfSome};
+ghost use Rattle.std.specs.Prelude.{◌≡◌, ◌<◌, ◌≤◌, ◌+◌, ◌++◌, ◌^◌, true, length, slice_get, slice_index_or, All, Some, IfErr, IfOk, OnOk, IfSome};
+ghost use Rattle.abi_base.specs.Outcome.{OnLimit};
+ghost use Rattle.abi_base.specs.declared.fault.NoMemory.TheVariants.{Allocation};
 ghost use Rattle.type_reach.specs.References.{own_types};
 ghost use Rattle.type_reach.specs.References as spec;
 ghost use Rattle.type_reach.specs.ByValue.{IsClosed};
-ghost use Rattle.type_reach.specs.TypeReferences.{AreTypeReferences};
+ghost use Rattle.type_reach.specs.TypeReferences.{AreTypeReferences, PassesReferences, references_count};
 ghost use Rattle.type_reach.specs.Views as views;
 
 use crate::origins::{Origins, other_body};
@@ -45,6 +47,7 @@ fn parts_row(
     requires same_inside { IfSome visit.now.same (λ k. All (λ c. c < length dwarf.now.tree.entries) (spec.parts_of dwarf.now.tree visit.now.e)) }
     ensures parts { IfOk result (λ list. list.items ≡ spec.parts_of dwarf.now.tree visit.now.e) }
     ensures inside { IfOk result (λ list. All (λ c. c < length dwarf.now.tree.entries) list.items) }
+    ensures named { IfErr result (λ e. e ≡ Allocation) }
 {
     match visit.same {
         Some(number) => {
@@ -66,7 +69,8 @@ fn variadic_row(
     requires inside { visit.now.e < length dwarf.now.tree.entries }
     requires role { visit.now.role ≡ spec.role_of dwarf.now.tree visit.now.e }
     requires same { IfSome visit.now.same (λ k. slice_get known.now k ≡ Some (views.is_variadic dwarf.now.tree visit.now.e)) }
-    ensures { IfOk result (λ further. further ≡ views.is_variadic dwarf.now.tree visit.now.e) }
+    ensures further { IfOk result (λ further. further ≡ views.is_variadic dwarf.now.tree visit.now.e) }
+    ensures named { IfErr result (λ e. e ≡ Allocation) }
 {
     match visit.same {
         Some(number) => Ok(known[number]),
@@ -84,7 +88,8 @@ fn push_own(
 ) -> Result<(), NoMemory>
     requires inside { e < length dwarf.now.tree.entries }
     requires role { role ≡ spec.role_of dwarf.now.tree e }
-    ensures { OnOk result (types.new.items ≡ types.old.items ++ own_types dwarf.now.tree e) }
+    ensures types { OnOk result (types.new.items ≡ types.old.items ++ own_types dwarf.now.tree e) }
+    ensures named { IfErr result (λ e. e ≡ Allocation) }
 {
     if has_type(role) {
         types.push(type_of(dwarf, e))?;
@@ -105,7 +110,8 @@ fn fill_types(
     requires role { role ≡ spec.role_of dwarf.now.tree e }
     requires parts { parts.now ≡ spec.parts_of dwarf.now.tree e }
     requires parts_inside { All (λ c. c < length dwarf.now.tree.entries) parts.now }
-    ensures { OnOk result (types.new.items ≡ spec.types_of dwarf.now.tree e) }
+    ensures types { OnOk result (types.new.items ≡ spec.types_of dwarf.now.tree e) }
+    ensures named { IfErr result (λ e. e ≡ Allocation) }
 {
     types.clear();
     push_own(dwarf, types, e, role)?;
@@ -125,7 +131,9 @@ pub fn type_references_of(
     most_parts: usize,
 ) -> Result<TypeReferences, NoMemory>
     requires { IsClosed dwarf.now.tree found.now }
-    ensures { IfOk result (λ leads. AreTypeReferences dwarf.now.tree found.now leads) }
+    ensures leads { IfOk result (λ leads. AreTypeReferences dwarf.now.tree found.now leads) }
+    ensures within { OnOk result (references_count dwarf.now.tree found.now ≤ most_parts) }
+    ensures past { IfErr result (λ e. OnLimit e (PassesReferences dwarf.now.tree found.now most_parts)) }
 {
     let mut parts = Rows::with_capacity(alloc, found.len())?;
     let mut types = Rows::with_capacity(alloc, found.len())?;

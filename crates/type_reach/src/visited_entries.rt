@@ -1,6 +1,7 @@
 // The entries that a walk has met.
-ghost use Rattle.std.specs.Prelude.{◌≡◌, ◌<◌, ◌^◌, [], length, nat_eq, slice_get, Some, IfOk, IfSome, OnOk};
+ghost use Rattle.std.specs.Prelude.{◌≡◌, ◌<◌, ◌^◌, [], length, nat_eq, slice_get, Some, IfErr, IfOk, IfSome, OnOk};
 ghost use Rattle.std.specs.List.{IsDistinct};
+ghost use Rattle.abi_base.specs.declared.fault.NoMemory.TheVariants.{Allocation};
 ghost use Rattle.type_reach.specs.Reached.{with_entry, with_type};
 ghost use Rattle.type_reach.specs.VisitedEntries.{by_offset};
 
@@ -33,7 +34,8 @@ impl VisitedEntries {
     /// No entries yet, of a tree with this many.
     pub fn new(alloc: Global, count: usize) -> Result<VisitedEntries, NoMemory>
         requires { count < 2 ^ 32 }
-        ensures { IfOk result (λ met. met ≡ record { entries = []; room = count }) }
+        ensures none { IfOk result (λ met. met ≡ record { entries = []; room = count }) }
+        ensures named { IfErr result (λ e. e ≡ Allocation) }
     {
         let marks = vec![in alloc; false; count]?;
         Ok(VisitedEntries {
@@ -69,6 +71,7 @@ impl VisitedEntries {
         requires { e < self.old.room }
         ensures entries { OnOk result (self.new.entries ≡ with_entry self.old.entries e) }
         ensures room { OnOk result (self.new.room ≡ self.old.room) }
+        ensures named { IfErr result (λ e. e ≡ Allocation) }
     {
         let place = e.index();
         if !self.marks[place] {
@@ -83,6 +86,7 @@ impl VisitedEntries {
         requires { IfSome ty (λ e. e < self.old.room) }
         ensures entries { OnOk result (self.new.entries ≡ with_type self.old.entries ty) }
         ensures room { OnOk result (self.new.room ≡ self.old.room) }
+        ensures named { IfErr result (λ e. e ≡ Allocation) }
     {
         match ty {
             Some(e) => self.add(e),
@@ -92,7 +96,8 @@ impl VisitedEntries {
 
     /// The entries met, by offset.
     pub fn by_offset(&self, alloc: Global) -> Result<ReachedEntries, NoMemory>
-        ensures { IfOk result (λ found. found ≡ by_offset self.now.entries self.now.room) }
+        ensures found { IfOk result (λ found. found ≡ by_offset self.now.entries self.now.room) }
+        ensures named { IfErr result (λ e. e ≡ Allocation) }
     {
         ReachedEntries::marked(alloc, self.marks.as_slice(), self.entries.len())
     }

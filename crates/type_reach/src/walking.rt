@@ -1,5 +1,6 @@
 // The walk to everything that roots reach.
-ghost use Rattle.std.specs.Prelude.{◌≡◌, ◌<◌, length, map, All, Some, IfOk, OnOk};
+ghost use Rattle.std.specs.Prelude.{◌≡◌, ◌<◌, length, map, All, Some, IfErr, IfOk, OnOk};
+ghost use Rattle.abi_base.specs.declared.fault.NoMemory.TheVariants.{Allocation};
 ghost use Rattle.type_reach.specs.References.{own_types};
 ghost use Rattle.type_reach.specs.References as spec;
 ghost use Rattle.type_reach.specs.Reached.{with_types, IsWalk};
@@ -31,6 +32,7 @@ fn add_own(
     requires room { met.old.room ≡ length dwarf.now.tree.entries }
     ensures entries { OnOk result (met.new.entries ≡ with_types met.old.entries (own_types dwarf.now.tree e)) }
     ensures room { OnOk result (met.new.room ≡ met.old.room) }
+    ensures named { IfErr result (λ e. e ≡ Allocation) }
 {
     if has_type(role) {
         met.add_type(type_of(dwarf, e))?;
@@ -44,6 +46,7 @@ fn add_types(dwarf: &Dwarf, met: &mut VisitedEntries, parts: &[EntryNumber]) -> 
     requires room { met.old.room ≡ length dwarf.now.tree.entries }
     ensures entries { OnOk result (met.new.entries ≡ with_types met.old.entries (map (spec.type_of dwarf.now.tree) parts.now)) }
     ensures room { OnOk result (met.new.room ≡ met.old.room) }
+    ensures named { IfErr result (λ e. e ≡ Allocation) }
 {
     'parts: for k in 0..parts.len() {
         met.add_type(type_of(dwarf, parts[k]))?;
@@ -66,6 +69,7 @@ fn expand(
     ensures entries { OnOk result (met.new.entries ≡ with_types met.old.entries (spec.types_of dwarf.now.tree e)) }
     ensures room { OnOk result (met.new.room ≡ met.old.room) }
     ensures passed { OnOk result (ArePassed dwarf.now.tree origins.new met.new.entries) }
+    ensures named { IfErr result (λ e. e ≡ Allocation) }
 {
     let role = role_of(dwarf, e);
     add_own(dwarf, met, e, role)?;
@@ -84,6 +88,7 @@ fn add_roots(met: &mut VisitedEntries, roots: &[EntryNumber]) -> Result<(), NoMe
     requires { All (λ root. root < met.old.room) roots.now }
     ensures entries { OnOk result (met.new.entries ≡ with_types met.old.entries (map (λ e. Some e) roots.now)) }
     ensures room { OnOk result (met.new.room ≡ met.old.room) }
+    ensures named { IfErr result (λ e. e ≡ Allocation) }
 {
     'roots: for k in 0..roots.len() {
         met.add(roots[k])?;
@@ -96,6 +101,7 @@ fn walk(alloc: Global, dwarf: &Dwarf, roots: &[EntryNumber]) -> Result<VisitedEn
     requires { All (λ root. root < length dwarf.now.tree.entries) roots.now }
     ensures walk { IfOk result (λ met. IsWalk dwarf.now.tree roots.now met.entries) }
     ensures room { IfOk result (λ met. met.room ≡ length dwarf.now.tree.entries) }
+    ensures named { IfErr result (λ e. e ≡ Allocation) }
 {
     dwarf.known();
     let mut met = VisitedEntries::new(alloc, dwarf.len())?;
@@ -122,6 +128,7 @@ pub fn reached(
     ensures list { IfOk result (λ found. found ≡ reached_of dwarf.now.tree roots.now) }
     ensures walk { IfOk result (λ found. IsWalk dwarf.now.tree roots.now found) }
     ensures closed { IfOk result (λ found. IsClosed dwarf.now.tree found) }
+    ensures named { IfErr result (λ e. e ≡ Allocation) }
 {
     walks_find_the_list();
     the_list_holds_the_reached();

@@ -14,6 +14,6 @@ found-preserved c =
       facts = map-step (λ (e : ℕ). facts_of d (Some e)) c.args.types.now.found.now c.push.new.self.items c.found.facts.items c.found.number c.at-e.result c.in-Some.one c.found.invariant.facts c.at-e.ensures is c.in_ok-push-in-Some.ensures.items;
     }
 
-pub returns : goal.returns
-returns c =
+pub returns-clause-facts : goal.returns-clause-facts
+returns-clause-facts c =
     AreAllFacts-end c.args.types.now.dwarf.now c.args.types.now.found.now c.found.facts.items c.found.number (omega (arith, c.found-test.false, c.len-number-end.ensures)) c.found.invariant.facts c.requires.shallow

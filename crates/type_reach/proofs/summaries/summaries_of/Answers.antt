@@ -5,8 +5,8 @@ use Rattle.type_reach.specs.Facts.{facts_of}
 use Rattle.type_reach.specs.Summaries.{summary_of}
 use Rattle.type_reach.proofs.summaries.summaries_of.Goals as goal
 
-pub returns : goal.returns
-returns c =
+pub returns-clause-summaries : goal.returns-clause-summaries
+returns-clause-summaries c =
     let facts = c.args.facts.now in
     let whole : c.facts.summaries.items ≡ map summary_of facts = c.facts.invariant ∙ ap (map summary_of) (take_all c.facts.k facts c.facts-test.false) in
     record {

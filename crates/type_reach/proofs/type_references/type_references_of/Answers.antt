@@ -1,16 +1,47 @@
 -- One entry more.
-use Rattle.std.proofs.Common.{◌≡◌, ◌≤◌, ◌<◌, ◌∙◌, ◌++◌, ◌∷◌, [], ℕ, Some, length, map, take, slice_get, sym, ap, subst, arith}
+use Rattle.std.proofs.Common.{◌≡◌, ◌≤◌, ◌<◌, ◌+◌, ◌∙◌, ◌++◌, ◌∷◌, [], ℕ, List, Some, length, map, take, slice_get, refl, sym, ap, subst, arith}
 use Rattle.std.specs.Prelude.{All, IfSome}
 use Rattle.std.proofs.lemmas.List.{take_all, length-map, length-take}
-use Rattle.std.proofs.lemmas.Option.{slice_get_within}
+use Rattle.std.proofs.lemmas.List.Sums.{sum_by_more, sum_by_more_le}
+use Rattle.std.proofs.lemmas.Option.{slice_get_within, get_or_from_slice_get}
+use Rattle.std.proofs.lemmas.Result.{err_from_is_err_and}
 use Rattle.abi_base.proofs.lemmas.Lists.{contains_at}
+use Rattle.dwarf_tree.specs.Trees.{PlainTree}
 use Rattle.type_reach.specs.References.{parts_of, types_of}
+use Rattle.type_reach.specs.TypeReferences.{references_count}
 use Rattle.type_reach.specs.Views.{is_variadic}
 use Rattle.type_reach.specs.Origins.{AreOrigins}
 use Rattle.type_reach.proofs.LearnLemmas.{map-step}
 use Rattle.type_reach.proofs.LeadLemmas.{inside-more, inside-end}
 use Rattle.type_reach.proofs.OriginLemmas.{same-parts, same-inside, AreOrigins-more, IsRow}
 use Rattle.type_reach.proofs.type_references.type_references_of.Goals as goal
+
+one-more : (t : PlainTree) (found : List ℕ) (k e left rest most n : ℕ) → slice_get found k ≡ Some e → n ≡ length (parts_of t e) → rest + n ≡ left → left + references_count t (take k found) ≡ most → rest + references_count t (take (k + 1) found) ≡ most
+one-more t found k e left rest most n at is took was =
+    let cost : ℕ → ℕ = λ x. length (parts_of t x) in
+    let more = sum_by_more cost found k 0 (slice_get_within found k e at) in
+    let same = ap cost (get_or_from_slice_get found k e 0 at) in
+    omega (arith, more, same, is, took, was)
+
+one-past : (t : PlainTree) (found : List ℕ) (k e left most n : ℕ) → slice_get found k ≡ Some e → n ≡ length (parts_of t e) → left < n → left + references_count t (take k found) ≡ most → most < references_count t found
+one-past t found k e left most n at is above was =
+    let cost : ℕ → ℕ = λ x. length (parts_of t x) in
+    let more = sum_by_more_le cost found k 0 (slice_get_within found k e at) in
+    let same = ap cost (get_or_from_slice_get found k e 0 at) in
+    omega (arith, more, same, is, above, was)
+
+all-within : (t : PlainTree) (found : List ℕ) (k left most : ℕ) → length found ≤ k → left + references_count t (take k found) ≡ most → references_count t found ≤ most
+all-within t found k left most past was =
+    let same = ap (references_count t) (take_all k found past) in
+    omega (arith, same, was)
+
+pub returns-in_err-left-clause-past : goal.returns-in_err-left-clause-past
+returns-in_err-left-clause-past c =
+    let p = err_from_is_err_and c.from_residual-in_err-left.result c.from_residual-in_err-left.ensures.1 in
+    rw (p.1, p.2, c.in_err-left.ensures.named) (refl, one-past c.args.dwarf.now.tree c.args.found.now c.found.number c.at-e.result c.found.left c.args.most_parts _ c.at-e.ensures (omega (arith, c.len-in-found.ensures, c.in_ok-row.row.ok.0, ap length c.in_ok-row.ensures.parts)) c.in_err-left.ensures.err c.found.invariant.count)
+
+pub returns-clause-within : goal.returns-clause-within
+returns-clause-within c = all-within c.args.dwarf.now.tree c.args.found.now c.found.number c.found.left c.args.most_parts (omega (arith, c.found-test.false, c.len-number-end.ensures)) c.found.invariant.count
 
 pub role_of-role-requires : goal.role_of-role-requires
 role_of-role-requires c = c.requires.inside c.at-e.result (contains_at c.args.found.now c.found.number c.at-e.result c.at-e.ensures)
@@ -58,21 +89,22 @@ found-preserved c =
       body = c.other_body-origin.ensures.body;
       parts = c.as_slice-in-found-2.ensures.value ∙ c.in_ok-row.ensures.parts;
       inside = subst (All (λ (x : ℕ). x < length t.entries)) (sym c.as_slice-in-found-2.ensures.value) c.in_ok-row.ensures.inside;
-      further = c.in_ok-further.ensures;
+      further = c.in_ok-further.ensures.further;
     } in
     record {
-      parts = map-step (parts_of t) found c.push.new.self c.found.parts k e row was.parts c.at-e.ensures is.parts c.in_ok-push.ensures;
-      types = map-step (types_of t) found c.push-in-found.new.self c.found.types k e c.as_slice-in-found-3.result.now was.types c.at-e.ensures (c.as_slice-in-found-3.ensures.value ∙ c.in_ok-fill_types.ensures) c.in_ok-push-2.ensures;
+      parts = map-step (parts_of t) found c.push.new.self c.found.parts k e row was.parts c.at-e.ensures is.parts c.in_ok-push.ensures.row;
+      types = map-step (types_of t) found c.push-in-found.new.self c.found.types k e c.as_slice-in-found-3.result.now was.types c.at-e.ensures (c.as_slice-in-found-3.ensures.value ∙ c.in_ok-fill_types.ensures.types) c.in_ok-push-2.ensures.row;
       variadic = map-step (is_variadic t) found c.push-in-found-2.new.self.items c.found.variadic.items k e further was.variadic c.at-e.ensures is.further c.in_ok-push-3.ensures.items;
       inside = inside-more t found k e was.inside c.at-e.ensures (subst (All (λ (x : ℕ). x < length t.entries)) c.in_ok-row.ensures.parts c.in_ok-row.ensures.inside);
+      count = one-more t found k e c.found.left c.in_ok-left.left c.args.most_parts _ c.at-e.ensures (omega (arith, c.len-in-found.ensures, c.in_ok-row.row.ok.0, ap length c.in_ok-row.ensures.parts)) c.in_ok-left.ensures.ok was.count;
       origins =
-          subst (λ rows. AreOrigins t rows c.push-in-found-2.new.self.items c.keep.new.self) (sym c.in_ok-push.ensures)
+          subst (λ rows. AreOrigins t rows c.push-in-found-2.new.self.items c.keep.new.self) (sym c.in_ok-push.ensures.row)
           (subst (λ flags. AreOrigins t (c.found.parts ++ row ∷ []) flags c.keep.new.self) (sym c.in_ok-push-3.ensures.items)
-          (AreOrigins-more t c.found.origins c.keep.new.self c.found.parts c.found.variadic.items c.other_body-origin.result e k row further c.in_ok-keep.ensures at at_flag is was.origins));
+          (AreOrigins-more t c.found.origins c.keep.new.self c.found.parts c.found.variadic.items c.other_body-origin.result e k row further c.in_ok-keep.ensures.numbers at at_flag is was.origins));
     }
 
-pub returns : goal.returns
-returns c =
+pub returns-clause-leads : goal.returns-clause-leads
+returns-clause-leads c =
     let t = c.args.dwarf.now.tree in
     let found = c.args.found.now in
     let k = c.found.number in

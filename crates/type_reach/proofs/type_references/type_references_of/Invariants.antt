@@ -1,6 +1,7 @@
-use Rattle.std.proofs.Common.{◌≡◌, map, take}
+use Rattle.std.proofs.Common.{◌≡◌, ◌+◌, map, take}
 use Rattle.std.specs.Prelude.{All}
 use Rattle.type_reach.specs.References.{parts_of, types_of}
+use Rattle.type_reach.specs.TypeReferences.{references_count}
 use Rattle.type_reach.specs.Origins.{AreOrigins}
 use Rattle.type_reach.specs.Views.{is_variadic}
 use Rattle.type_reach.proofs.LeadLemmas.{ArePartsInside}
@@ -12,5 +13,6 @@ invariant-found l = record {
   types : l.types ≡ map (types_of l.dwarf.tree) (take l.number l.found);
   variadic : l.variadic.items ≡ map (is_variadic l.dwarf.tree) (take l.number l.found);
   inside : All (ArePartsInside l.dwarf.tree) (take l.number l.found);
+  count : l.left + references_count l.dwarf.tree (take l.number l.found) ≡ l.fn.most_parts;
   origins : AreOrigins l.dwarf.tree l.parts l.variadic.items l.origins;
 }

@@ -41,4 +41,4 @@ returns-clause-passed c =
     ∙ ap (λ parts. with_types own (map (type_of t) parts)) (c.as_slice.ensures.value ∙ c.in_ok-parts.ensures.parts)
     in
     let passed = ArePassed-grown t c.args.origins.now c.args.met.now.entries (own_types t e) c.requires.passed in
-    subst (ArePassed t c.keep.new.self) (sym grown) (ArePassed-more t c.args.origins.now c.keep.new.self own c.other_body-origin.result e c.index.result c.in_ok-keep.ensures c.other_body-origin.ensures.role c.other_body-origin.ensures.body passed)
+    subst (ArePassed t c.keep.new.self) (sym grown) (ArePassed-more t c.args.origins.now c.keep.new.self own c.other_body-origin.result e c.index.result c.in_ok-keep.ensures.numbers c.other_body-origin.ensures.role c.other_body-origin.ensures.body passed)

@@ -15,7 +15,7 @@ returns-clause-walk c =
     let inside : (e : ℕ) → Contains roots e → e < length t.entries = λ e h. All-contains (λ (x : ℕ). x < length t.entries) roots e c.requires h in
     let is : by_offset c.in_ok-met.met.entries c.in_ok-met.met.room ≡ reached_of t roots = ap (by_offset c.in_ok-met.met.entries) c.in_ok-met.ensures.room ∙ c.walks_find_the_list.ensures t roots c.in_ok-met.met.entries inside c.in_ok-met.ensures.walk in
     IfOk-weaker c.by_offset.result (λ (found : List ℕ). found ≡ by_offset c.in_ok-met.met.entries c.in_ok-met.met.room) (IsWalk t roots)
-    (λ found made. subst (IsWalk t roots) (sym (made ∙ is)) (c.the_list_holds_the_reached.ensures.walk t roots inside)) c.by_offset.ensures
+    (λ found made. subst (IsWalk t roots) (sym (made ∙ is)) (c.the_list_holds_the_reached.ensures.walk t roots inside)) c.by_offset.ensures.found
 
 pub returns-clause-closed : goal.returns-clause-closed
 returns-clause-closed c =
@@ -24,4 +24,4 @@ returns-clause-closed c =
     let inside : (e : ℕ) → Contains roots e → e < length t.entries = λ e h. All-contains (λ (x : ℕ). x < length t.entries) roots e c.requires h in
     let is : by_offset c.in_ok-met.met.entries c.in_ok-met.met.room ≡ reached_of t roots = ap (by_offset c.in_ok-met.met.entries) c.in_ok-met.ensures.room ∙ c.walks_find_the_list.ensures t roots c.in_ok-met.met.entries inside c.in_ok-met.ensures.walk in
     IfOk-weaker c.by_offset.result (λ (found : List ℕ). found ≡ by_offset c.in_ok-met.met.entries c.in_ok-met.met.room) (IsClosed t)
-    (λ found made. subst (IsClosed t) (sym (made ∙ is)) (c.the_list_holds_the_reached.ensures.closed t roots inside)) c.by_offset.ensures
+    (λ found made. subst (IsClosed t) (sym (made ∙ is)) (c.the_list_holds_the_reached.ensures.closed t roots inside)) c.by_offset.ensures.found

@@ -13,8 +13,8 @@ pub walk-init : goal.walk-init
 walk-init c =
     let t = c.args.dwarf.now.tree in
     record {
-      walking = IsWalking-start t c.args.roots.now (lead_inside t) c.add_roots.new.met.entries (λ f h. All-contains (λ (x : ℕ). x < length t.entries) c.args.roots.now f c.requires h) (rw (c.in_ok-add_roots.ensures.entries, c.in_ok-met.ensures) (Grew-types [] (map (λ e. Some e) c.args.roots.now)));
-      room = rw (c.in_ok-add_roots.ensures.room, c.in_ok-met.ensures) c.len.ensures;
+      walking = IsWalking-start t c.args.roots.now (lead_inside t) c.add_roots.new.met.entries (λ f h. All-contains (λ (x : ℕ). x < length t.entries) c.args.roots.now f c.requires h) (rw (c.in_ok-add_roots.ensures.entries, c.in_ok-met.ensures.none) (Grew-types [] (map (λ e. Some e) c.args.roots.now)));
+      room = rw (c.in_ok-add_roots.ensures.room, c.in_ok-met.ensures.none) c.len.ensures;
       passed = ArePassed-none t c.new-origins.result c.add_roots.new.met.entries c.new-origins.ensures;
     }
 

@@ -20,5 +20,5 @@ invariant_of-result c =
     let marks = c.args.marks.now in
     subst IsStrictlyIncreasing (sym (c.marks.invariant ∙ places-all marks c.marks.e (omega (arith, c.marks-test.false, c.marks.auto.e-end)))) (places-rise marks)
 
-pub returns : goal.returns
-returns c = c.marks.invariant ∙ places-all c.args.marks.now c.marks.e (omega (arith, c.marks-test.false, c.marks.auto.e-end))
+pub returns-clause-found : goal.returns-clause-found
+returns-clause-found c = c.marks.invariant ∙ places-all c.args.marks.now c.marks.e (omega (arith, c.marks-test.false, c.marks.auto.e-end))

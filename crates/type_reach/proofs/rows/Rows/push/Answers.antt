@@ -11,8 +11,8 @@ invariant_of-self-in-Ok g c =
     subst (λ xs. EndInOrder 0 xs (length c.extend_from_slice.new.self.items)) (sym c.in-Ok.ensures.items)
     (subst (EndInOrder 0 (ends ++ c.len.result ∷ [])) (omega (arith, c.len.ensures)) order)
 
-pub returns-in-Ok : goal.returns-in-Ok
-returns-in-Ok g c =
+pub returns-in-Ok-clause-row : goal.returns-in-Ok-clause-row
+returns-in-Ok-clause-row g c =
     let items = c.self.inside.items.items in
     let ends = c.self.inside.ends.items in
     let row = c.args.row.now in
