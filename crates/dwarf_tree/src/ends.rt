@@ -1,5 +1,6 @@
 // Where the subtree of each entry ends.
-ghost use Rattle.std.specs.Prelude.{◌≡◌, ◌<◌, ◌+◌, ◌≤◌, ◌^◌, length, IfOk};
+ghost use Rattle.std.specs.Prelude.{◌≡◌, ◌<◌, ◌+◌, ◌≤◌, ◌^◌, length, IfErr, IfOk};
+ghost use Rattle.abi_base.specs.declared.fault.NoMemory.TheVariants.{Allocation};
 ghost use Rattle.dwarf_tree.specs.Keeping.{AreEnds, EndsFrom, end_below};
 
 use crate::tree_builder::TreeBuilder;
@@ -31,7 +32,8 @@ fn end_in(growing: &TreeBuilder<'_>, ends: &[u32], e: usize) -> usize
 // The end of each entry's subtree.
 pub(crate) fn ends_of(alloc: Global, growing: &TreeBuilder<'_>) -> Result<Vec<u32>, NoMemory>
     requires { length growing.now.tree.entries < 2 ^ 32 }
-    ensures { IfOk result (λ ends. AreEnds growing.now.tree ends.items) }
+    ensures ends { IfOk result (λ ends. AreEnds growing.now.tree ends.items) }
+    ensures named { IfErr result (λ e. e ≡ Allocation) }
 {
     let mut ends = vec![in alloc; 0; growing.len()]?;
     let mut e = growing.len();

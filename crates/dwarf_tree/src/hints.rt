@@ -1,6 +1,7 @@
 // Hints of where to search for the entry at an offset. Hints only save time: a search checks each one, and finds the same
 // entry whatever they are.
-ghost use Rattle.std.specs.Prelude.{◌<◌, ◌^◌, length};
+ghost use Rattle.std.specs.Prelude.{◌≡◌, ◌<◌, ◌^◌, length, IfErr};
+ghost use Rattle.abi_base.specs.declared.fault.NoMemory.TheVariants.{Allocation};
 
 use crate::entry_records::EntryRecord;
 use abi_base::NoMemory;
@@ -16,6 +17,7 @@ pub(crate) const MOST_BETWEEN: usize = 32;
 // say this, since hints only save time.
 pub(crate) fn hints_of(alloc: Global, entries: &[EntryRecord]) -> Result<Vec<u32>, NoMemory>
     requires { length entries.now < 2 ^ 32 }
+    ensures { IfErr result (λ e. e ≡ Allocation) }
 {
     let Some(last) = entries.last() else {
         return Ok(Vec::new(alloc));

@@ -1,7 +1,8 @@
 // Long texts in the bytes of entries. A text ends at the first byte 0, so a look-up that passes over a text, or that asks whether an
 // attribute has one, would read all of it. The ends of long texts are therefore found once, and such a look-up reads no more of a text
 // than its first bytes.
-ghost use Rattle.std.specs.Prelude.{◌≡◌, ◌<◌, ◌≤◌, All, IfOk, IfSome, length};
+ghost use Rattle.std.specs.Prelude.{◌≡◌, ◌<◌, ◌≤◌, All, IfErr, IfOk, IfSome, length};
+ghost use Rattle.abi_base.specs.declared.fault.NoMemory.TheVariants.{Allocation};
 ghost use Rattle.dwarf_tree.specs.LongTexts.{IsKeptEnd, IsLongText, TextEnds};
 
 use abi_base::{NoMemory, text_at};
@@ -39,7 +40,8 @@ fn passed(info: &[u8], at: usize) -> usize
 
 // The long texts of a section, by offset. There is at most one for each `LONG` bytes.
 pub(crate) fn long_texts_of(alloc: Global, info: &[u8]) -> Result<Vec<LongText>, NoMemory>
-    ensures { IfOk result (λ texts. All (IsLongText info.now) texts.items) }
+    ensures texts { IfOk result (λ texts. All (IsLongText info.now) texts.items) }
+    ensures named { IfErr result (λ e. e ≡ Allocation) }
 {
     let mut texts = Vec::new(alloc);
     let mut at = 0;

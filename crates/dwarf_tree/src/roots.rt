@@ -1,5 +1,6 @@
 // The root of each unit.
-ghost use Rattle.std.specs.Prelude.{IfOk};
+ghost use Rattle.std.specs.Prelude.{◌≡◌, IfErr, IfOk};
+ghost use Rattle.abi_base.specs.declared.fault.NoMemory.TheVariants.{Allocation};
 ghost use Rattle.dwarf_tree.specs.Keeping.{AreRoots};
 ghost use Rattle.dwarf_tree.specs.Trees.{IsOrdered};
 
@@ -14,7 +15,8 @@ pub(crate) fn roots_of(
     growing: &TreeBuilder<'_>,
 ) -> Result<Vec<EntryNumber>, NoMemory>
     requires { IsOrdered growing.now.tree }
-    ensures { IfOk result (λ roots. AreRoots growing.now.tree roots.items) }
+    ensures roots { IfOk result (λ roots. AreRoots growing.now.tree roots.items) }
+    ensures named { IfErr result (λ e. e ≡ Allocation) }
 {
     let mut roots = Vec::with_capacity(alloc, growing.units_len())?;
     for unit in 0..growing.units_len() {

@@ -1,5 +1,6 @@
 // The shapes of the entries read so far.
-ghost use Rattle.std.specs.Prelude.{◌≡◌, ◌<◌, ◌+◌, ◌≤◌, ◌^◌, [], All, length, IfOk, IfSome, OnErr, OnOk};
+ghost use Rattle.std.specs.Prelude.{◌≡◌, ◌<◌, ◌+◌, ◌≤◌, ◌^◌, [], All, length, IfErr, IfOk, IfSome, OnErr, OnOk};
+ghost use Rattle.abi_base.specs.declared.fault.NoMemory.TheVariants.{Allocation};
 ghost use Rattle.dwarf_tree.specs.Keeping.{AreSlots, Extends, IsNewLayout, IsLayout, shape_at};
 
 use crate::attribute_source::names_of;
@@ -34,7 +35,8 @@ impl Model for AbbreviationLayouts {
 impl AbbreviationLayouts {
     /// No shapes, and room for hints at all offsets in `.debug_abbrev`.
     pub fn new(alloc: Global, bytes: usize) -> Result<AbbreviationLayouts, NoMemory>
-        ensures { IfOk result (λ shapes. shapes ≡ record { shapes = []; slots = [] }) }
+        ensures empty { IfOk result (λ shapes. shapes ≡ record { shapes = []; slots = [] }) }
+        ensures named { IfErr result (λ e. e ≡ Allocation) }
     {
         Ok(AbbreviationLayouts {
             list: Vec::new(alloc),
@@ -83,6 +85,7 @@ impl AbbreviationLayouts {
         ensures lead { IfOk result (λ place. AreSlots abbrevs.now specs_from self.new.slots place.0 place.1) }
         ensures extended { Extends self.old.slots self.new.slots }
         ensures same { self.new.shapes ≡ self.old.shapes }
+        ensures named { IfErr result (λ e. e ≡ Allocation) }
     {
         if let Some(number) = self.noted(specs_from) {
             let shape = self.list[number as usize];
@@ -108,6 +111,7 @@ impl AbbreviationLayouts {
         ensures pushed { OnOk result (IsNewLayout abbrevs.now self.old.shapes unit entry.now self.new) }
         ensures same { OnErr result (self.new.shapes ≡ self.old.shapes) }
         ensures extended { Extends self.old.slots self.new.slots }
+        ensures named { IfErr result (λ e. e ≡ Allocation) }
     {
         let number = self.list.len() as u32;
         let specs_from = entry.specs_from().get();

@@ -1,5 +1,6 @@
 // Slots: where the values of an abbreviation's entries begin.
-ghost use Rattle.std.specs.Prelude.{◌≡◌, ◌<◌, ◌≤◌, ◌^◌, length, true, IfSome, OnOk, Some};
+ghost use Rattle.std.specs.Prelude.{◌≡◌, ◌<◌, ◌≤◌, ◌^◌, length, true, IfErr, IfSome, OnOk, Some};
+ghost use Rattle.abi_base.specs.declared.fault.NoMemory.TheVariants.{Allocation};
 ghost use Rattle.dwarf_forms.specs.Values.{fixed_size_of, shape_of};
 ghost use Rattle.dwarf_tree.specs.Keeping.{AreSlots, Extends, IsAsked, IsSlotFor, IsSlotOf, PassSame};
 ghost use Rattle.dwarf_tree.specs.Keeping as keeping;
@@ -72,6 +73,7 @@ pub(crate) fn push_slots(
     ensures lead { OnOk result (AreSlots abbrevs.now specs_from slots.new.items (length slots.old.items) (length slots.new.items)) }
     ensures extended { Extends slots.old.items slots.new.items }
     ensures few { length slots.new.items < 2 ^ 32 }
+    ensures named { IfErr result (λ e. e ≡ Allocation) }
 {
     values_of_a_fixed_size_end_behind_it();
     let most = abbrevs.len().min(u32::MAX as usize);

@@ -1,5 +1,6 @@
 // The children of an entry with a tag.
-ghost use Rattle.std.specs.Prelude.{◌≡◌, ◌<◌, [], ◌∷◌, ◌++◌, filter, length, IfOk, OnOk};
+ghost use Rattle.std.specs.Prelude.{◌≡◌, ◌<◌, [], ◌∷◌, ◌++◌, filter, length, IfErr, IfOk, OnOk};
+ghost use Rattle.abi_base.specs.declared.fault.NoMemory.TheVariants.{Allocation};
 ghost use Rattle.dwarf_tree.specs.Trees.{children_of, is_tagged};
 
 use crate::entry_number::EntryNumber;
@@ -16,7 +17,8 @@ impl<'a> Tree<'a> {
         tag: u64,
     ) -> Result<Vec<EntryNumber>, NoMemory>
         requires { e < length self.now.entries }
-        ensures { IfOk result (λ list. list.items ≡ filter (is_tagged self.now tag) (children_of self.now e)) }
+        ensures children { IfOk result (λ list. list.items ≡ filter (is_tagged self.now tag) (children_of self.now e)) }
+        ensures named { IfErr result (λ e. e ≡ Allocation) }
     {
         let mut list = Vec::new(alloc);
         let mut next = self.next_child(e, None);
@@ -35,7 +37,8 @@ impl<'a> Tree<'a> {
         tag: u64,
     ) -> Result<(), NoMemory>
         requires { child < length self.now.entries }
-        ensures { OnOk result (list.new.items ≡ list.old.items ++ filter (is_tagged self.now tag) (child ∷ [])) }
+        ensures taken { OnOk result (list.new.items ≡ list.old.items ++ filter (is_tagged self.now tag) (child ∷ [])) }
+        ensures named { IfErr result (λ e. e ≡ Allocation) }
     {
         if self.tag(child) == tag {
             list.push(child)?;

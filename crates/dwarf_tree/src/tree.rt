@@ -1,8 +1,10 @@
 // The tree of entries.
-ghost use Rattle.std.specs.Prelude.{◌≡◌, ◌<◌, ◌≤◌, ℕ, [], ◌∷◌, ◌++◌, All, filter, length, Contains, IfOk, IfSome, None, OnOk, Some, false};
+ghost use Rattle.std.specs.Prelude.{◌≡◌, ◌<◌, ◌≤◌, ℕ, [], ◌∷◌, ◌++◌, All, filter, length, Contains, IfErr, IfOk, IfSome, None, OnOk, Some, false};
 ghost use Rattle.std.specs.Option.{ForSome};
-ghost use Rattle.abi_base.specs.Outcome.{Judges};
+ghost use Rattle.abi_base.specs.declared.fault.NoMemory.TheVariants.{Allocation};
+ghost use Rattle.abi_base.specs.Outcome.{Judges, OnPast};
 ghost use Rattle.dwarf_forms.specs.declared.values.Value.TheVariants as value;
+ghost use Rattle.dwarf_units.specs.Limits.{HaveFewAttributes, UnitsPass};
 ghost use Rattle.dwarf_units.specs.Sequence.{entries_fault};
 ghost use Rattle.dwarf_tree.specs.Keeping.{IsLayout, LooksFrom, asked_value, end_below};
 ghost use Rattle.dwarf_tree.specs.LongTexts.{IsLongText};
@@ -63,7 +65,8 @@ impl<'a> Model for Tree<'a> {
 // The tree of the entries that were read, without unused capacity.
 fn finished<'a>(alloc: Global, mut growing: TreeBuilder<'a>) -> Result<Tree<'a>, NoMemory>
     requires { IsOrdered growing.tree }
-    ensures { IfOk result (λ t. t ≡ growing.entry.tree) }
+    ensures tree { IfOk result (λ t. t ≡ growing.entry.tree) }
+    ensures named { IfErr result (λ e. e ≡ Allocation) }
 {
     growing.shrink();
     let ends = ends_of(alloc, &growing)?;
@@ -92,10 +95,13 @@ fn finished<'a>(alloc: Global, mut growing: TreeBuilder<'a>) -> Result<Tree<'a>,
     })
 }
 
-/// The tree of the entries of a file's units. Err is the first fault of units and entries.
+/// The tree of the entries of a file's units. Err is the first fault of units and entries, or `NoMemory`. That a limit is passed is
+/// answered only where the abbreviation tables of all units count more than allowed, or the attributes of one unit.
 pub fn read_tree<'a>(alloc: Global, sections: &Sections<'a>) -> Result<Tree<'a>, Refusal>
     ensures judged { Judges result (entries_fault sections.now.info.now sections.now.abbrev.now) }
     ensures read { IfOk result (λ t. t ≡ tree_of sections.now.info.now sections.now.abbrev.now) }
+    ensures within { OnOk result (HaveFewAttributes sections.now.info.now sections.now.abbrev.now) }
+    ensures past { IfErr result (λ e. OnPast e (UnitsPass sections.now.info.now sections.now.abbrev.now)) }
 {
     a_section_is_in_order();
     match read_all(alloc, sections) {

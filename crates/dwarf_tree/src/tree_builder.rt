@@ -1,5 +1,6 @@
 // A tree while it is read.
-ghost use Rattle.std.specs.Prelude.{◌≡◌, ◌<◌, ◌≤◌, ◌+◌, ◌^◌, [], ◌∷◌, ◌++◌, All, length, IfOk, OnErr, OnOk, Some};
+ghost use Rattle.std.specs.Prelude.{◌≡◌, ◌<◌, ◌≤◌, ◌+◌, ◌^◌, [], ◌∷◌, ◌++◌, All, length, IfErr, IfOk, OnErr, OnOk, Some};
+ghost use Rattle.abi_base.specs.declared.fault.NoMemory.TheVariants.{Allocation};
 ghost use Rattle.dwarf_tree.specs.Keeping.{Extends, IsLayout, IsStored, decoder, kept_of, names_in, now_with, pair_names, stored_of};
 ghost use Rattle.dwarf_tree.specs.Trees.{IsOrdered, depth_at, placed, root_of};
 
@@ -40,6 +41,7 @@ fn store_first(
     ensures extended { Extends shapes.old.slots shapes.new.slots }
     ensures same_shapes { OnErr result (shapes.new.shapes ≡ shapes.old.shapes) }
     ensures same_entries { OnErr result (entries.new.items ≡ entries.old.items) }
+    ensures named { IfErr result (λ e. e ≡ Allocation) }
 {
     // Reserves first: nothing may fail after the shape is stored.
     entries.reserve(1)?;
@@ -64,6 +66,7 @@ fn store(
     ensures extended { Extends shapes.old.slots shapes.new.slots }
     ensures same_shapes { OnErr result (shapes.new.shapes ≡ shapes.old.shapes) }
     ensures same_entries { OnErr result (entries.new.items ≡ entries.old.items) }
+    ensures named { IfErr result (λ e. e ≡ Allocation) }
 {
     let Some(shape) = shapes.find(unit, entry.tag(), entry.specs_from().get()) else {
         return store_first(abbrevs, shapes, entries, unit, entry);
@@ -99,7 +102,8 @@ impl<'a> TreeBuilder<'a> {
         info: &'a [u8],
         abbrevs: &'a [u8],
     ) -> Result<TreeBuilder<'a>, NoMemory>
-        ensures { IfOk result (λ g. g ≡ record { info = info.now; abbrevs = abbrevs.now; tree = record { units = []; entries = [] } }) }
+        ensures empty { IfOk result (λ g. g ≡ record { info = info.now; abbrevs = abbrevs.now; tree = record { units = []; entries = [] } }) }
+        ensures named { IfErr result (λ e. e ≡ Allocation) }
     {
         Ok(TreeBuilder {
             info,
@@ -155,7 +159,8 @@ impl<'a> TreeBuilder<'a> {
     /// Appends the header of a unit.
     pub fn push_head(&mut self, head: Head) -> Result<(), NoMemory>
         requires { head.end ≤ length self.old.info }
-        ensures { OnOk result (self.new ≡ now_with self.old (self.old.tree.units ++ head ∷ []) self.old.tree.entries) }
+        ensures pushed { OnOk result (self.new ≡ now_with self.old (self.old.tree.units ++ head ∷ []) self.old.tree.entries) }
+        ensures named { IfErr result (λ e. e ≡ Allocation) }
     {
         self.units.push(head)?;
         Ok(())
@@ -169,7 +174,8 @@ impl<'a> TreeBuilder<'a> {
         requires few { length self.old.tree.entries + 1 < 2 ^ 32 }
         requires names { pair_names self.old.abbrevs entry.now.specs_from ≡ names_in entry.now.attributes }
         requires values { decoder self.old.info self.old.abbrevs self.old.tree.units (kept_of 0 unit entry.now) ≡ entry.now.attributes }
-        ensures { OnOk result (self.new ≡ now_with self.old self.old.tree.units (self.old.tree.entries ++ placed unit entry.now ∷ [])) }
+        ensures pushed { OnOk result (self.new ≡ now_with self.old self.old.tree.units (self.old.tree.entries ++ placed unit entry.now ∷ [])) }
+        ensures named { IfErr result (λ e. e ≡ Allocation) }
     {
         store(
             self.abbrevs,

@@ -90,4 +90,4 @@ given_next moves u s begun met e at lists reading is =
 -- what a refusal leaves
 pub refused_next : (u : PlainUnit) (s begun : State) (met : Bool) (r : Refusal) → IsReading u s met begun → IsToken u s (Err r) → ComesTo u begun met (Err r)
 refused_next u s begun met (refusal.Fault f) reading is = sym reading.here ∙ left_fault u s met f is
-refused_next u s begun met (refusal.NoMemory cause) reading is = tt
+refused_next u s begun met (refusal.NoMemory cause) reading is = is

@@ -1,6 +1,10 @@
 -- What an outline says of its entry.
-use Rattle.std.proofs.Common.{◌≡◌, ℕ, List, [], ◌∷◌, Ok, ap, ◌∙◌}
+use Rattle.std.proofs.Common.{◌≡◌, ℕ, List, [], ◌∷◌, Ok, refl, sym, ap, ◌∙◌, length}
 use Rattle.std.specs.Prelude.{map, IsOk}
+use Rattle.std.proofs.lemmas.List.{length-map}
+use Rattle.abi_base.specs.declared.fault.NoMemory.{NoMemory}
+use Rattle.abi_base.specs.declared.fault.NoMemory.TheVariants as memory
+use Rattle.abi_base.specs.Outcome.{OnLimit}
 use Rattle.abi_base.proofs.lemmas.Cases.{result_cases, same_Ok}
 use Rattle.dwarf_forms.specs.declared.abbreviations.abbrev.Spec.{Spec}
 use Rattle.dwarf_forms.specs.declared.values.Value.{Value}
@@ -29,3 +33,13 @@ attributes_of_specs u entry specs at read =
     result_cases (values_at u entry specs at)
     (λ r is. rw is (named_alike u entry specs at r is))
     (λ f is. absurd (let g = rw is at read in cc))
+
+-- as many pairs as attributes
+pub as_many : (specs : List Spec) (attributes : List (ℕ × Value)) → map (λ (s : Spec). s.attribute) specs ≡ map (λ (a : ℕ × Value). a.0) attributes → length specs ≡ length attributes
+as_many specs attributes same =
+    sym (length-map specs (λ (s : Spec). s.attribute)) ∙ ap (λ (names : List ℕ). length names) same ∙ length-map attributes (λ (a : ℕ × Value). a.0)
+
+-- a cause that no limit can be is an allocation
+pub allocation_alone : (cause : NoMemory) → OnLimit cause (λ l. ⊥) → cause ≡ memory.Allocation
+allocation_alone memory.Allocation none = refl
+allocation_alone (memory.Past l) none = absurd none

@@ -3,6 +3,7 @@ pub mod Grammar
 pub mod HeaderLayout
 pub mod HeaderRows
 pub mod KeptTables
+pub mod Limits
 pub mod Outlines
 pub mod Plain
 pub mod Rows

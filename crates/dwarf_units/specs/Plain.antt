@@ -2,6 +2,7 @@
 use Rattle.std.specs.Prelude.{◌≡◌, Some, None, Result, Ok, Err}
 use Rattle.abi_base.specs.declared.fault.Refusal.{Refusal}
 use Rattle.abi_base.specs.declared.fault.Refusal.TheVariants as refusal
+use Rattle.abi_base.specs.declared.fault.NoMemory.TheVariants.{Allocation}
 use Rattle.dwarf_units.specs.declared.unit.Unit.{Unit}
 use Rattle.dwarf_units.specs.declared.tokens.Token.{Token}
 use Rattle.dwarf_units.specs.declared.tokens.Token.TheVariants as token
@@ -25,4 +26,4 @@ IsToken u s (Ok (token.Given entry at lists)) = token_at u s ≡ Ok (Some entry,
 IsToken u s (Ok (token.Closed at lists)) = token_at u s ≡ Ok (None, (at, Some lists))
 IsToken u s (Ok token.End) = token_at u s ≡ Err None
 IsToken u s (Err (refusal.Fault f)) = token_at u s ≡ Err (Some f)
-IsToken u s (Err (refusal.NoMemory cause)) = Prim.Unit {0}
+IsToken u s (Err (refusal.NoMemory cause)) = cause ≡ Allocation

@@ -1,5 +1,6 @@
 // Entries without their attribute values.
-ghost use Rattle.std.specs.Prelude.{◌≡◌, IfOk, map};
+ghost use Rattle.std.specs.Prelude.{◌≡◌, IfErr, IfOk, length, map};
+ghost use Rattle.abi_base.specs.declared.fault.NoMemory.TheVariants.{Allocation};
 
 use crate::entry::Entry;
 use crate::unit::Unit;
@@ -78,9 +79,20 @@ impl<'u, 'a> Outline<'u, 'a> {
         self.form.specs.as_slice()
     }
 
-    /// The entry with its attribute values, or `NoMemory`.
+    // How many attributes it has.
+    #[inline]
+    #[tactic(auto, using(crate::proofs::OutlineLemmas::as_many))]
+    pub(crate) fn attributes_len(&self) -> usize
+        ensures { result ≡ length self.now.attributes }
+    {
+        self.specs().len()
+    }
+
+    /// The entry with its attribute values. Fails only where an allocation does.
+    #[tactic(auto, using(crate::proofs::OutlineLemmas::allocation_alone))]
     pub fn entry(&self, alloc: Global) -> Result<Entry, NoMemory>
-        ensures { IfOk result (λ e. e ≡ self.now) }
+        ensures read { IfOk result (λ e. e ≡ self.now) }
+        ensures named { IfErr result (λ e. e ≡ Allocation) }
     {
         let specs = self.form.specs.as_slice();
         match values_in(alloc, self.unit, self.offset.get(), specs, self.values) {

@@ -1,5 +1,6 @@
 // Whether a unit is a partial unit.
-ghost use Rattle.std.specs.Prelude.{◌≡◌, IfOk};
+ghost use Rattle.std.specs.Prelude.{◌≡◌, IfErr, IfOk};
+ghost use Rattle.abi_base.specs.declared.fault.NoMemory.TheVariants.{Allocation};
 ghost use Rattle.dwarf_units.specs.Plain.{plain_unit};
 ghost use Rattle.dwarf_units.specs.Sequence.{begins_partial};
 ghost use Rattle.dwarf_units.specs.Sequence as spec;
@@ -13,11 +14,13 @@ use abi_base::{NoMemory, Refusal};
 use std::alloc::Global;
 
 // Whether the root of a unit has no fault and the tag `DW_TAG_partial_unit`.
+#[tactic(auto, using(crate::proofs::LimitLemmas::begins_given, crate::proofs::LimitLemmas::begins_ended))]
 fn has_partial_root(alloc: Global, unit: &Unit<'_>) -> Result<bool, NoMemory>
-    ensures { IfOk result (λ is. is ≡ begins_partial (entries_of (plain_unit unit.now)).items) }
+    ensures read { IfOk result (λ is. is ≡ begins_partial (entries_of (plain_unit unit.now)).items) }
+    ensures named { IfErr result (λ e. e ≡ Allocation) }
 {
-    let mut left = entries(unit);
-    match left.next_outline(alloc) {
+    let left = entries(unit);
+    match left.first(alloc) {
         Ok(Some(root)) => Ok(root.tag() == DW_TAG_partial_unit),
         Ok(None) => Ok(false),
         Err(Refusal::Fault(_)) => Ok(false),
@@ -28,7 +31,8 @@ fn has_partial_root(alloc: Global, unit: &Unit<'_>) -> Result<bool, NoMemory>
 /// Whether a unit is a partial unit. In version 5 the unit type decides, in version 4 the tag of the root if that has no fault.
 #[tactic(auto, unfolding(crate::specs::Sequence::is_partial))]
 pub fn is_partial(alloc: Global, unit: &Unit<'_>) -> Result<bool, NoMemory>
-    ensures { IfOk result (λ is. is ≡ spec.is_partial (plain_unit unit.now)) }
+    ensures read { IfOk result (λ is. is ≡ spec.is_partial (plain_unit unit.now)) }
+    ensures named { IfErr result (λ e. e ≡ Allocation) }
 {
     if unit.version == DWARF_4 {
         return has_partial_root(alloc, unit);

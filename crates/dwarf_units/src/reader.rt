@@ -1,9 +1,10 @@
 // The entries of a unit, one at a time.
-ghost use Rattle.std.specs.Prelude.{◌≡◌, ◌≤◌, ◌<◌, ◌||◌, ◌&&◌, not, is_some, Bool, IfSome, Ok, Some};
-ghost use Rattle.abi_base.specs.Outcome.{fault_if};
+ghost use Rattle.std.specs.Prelude.{◌≡◌, ◌≤◌, ◌<◌, ◌||◌, ◌&&◌, not, is_some, Bool, IfErr, IfSome, Ok, Some};
+ghost use Rattle.abi_base.specs.Outcome.{OnPast, fault_if};
 ghost use Rattle.abi_base.specs.Runs.{NextIs};
 ghost use Rattle.abi_base.specs.declared.fault.FaultKind.TheVariants as kind;
-ghost use Rattle.dwarf_units.specs.Following.{ComesTo, IsNext};
+ghost use Rattle.dwarf_units.specs.Following.{ComesTo, FirstIs, IsNext};
+ghost use Rattle.dwarf_units.specs.Limits.{PassesLeft, TakesNext, attribute_cost};
 ghost use Rattle.dwarf_units.specs.Plain.{plain_unit};
 ghost use Rattle.dwarf_units.specs.Units.{entries_left, open_lists, token_at};
 ghost use Rattle.dwarf_units.specs.Units as spec;
@@ -11,7 +12,7 @@ ghost use Rattle.dwarf_units.specs.Units as spec;
 use crate::outline::Outline;
 use crate::tokens::{Token, end_in, entry_in, token_in};
 use crate::unit::Unit;
-use abi_base::{Effort, Fault, FaultKind, Refusal, uleb};
+use abi_base::{Budget, Fault, FaultKind, Refusal, uleb};
 use dwarf_forms::abbreviations::AbbreviationCode;
 use dwarf_forms::laws::reading_moves_on_inside_the_unit;
 use std::alloc::Global;
@@ -26,8 +27,6 @@ pub struct Entries<'u, 'a> {
     pub(crate) lists: Option<u32>,
     // Whether the reader has given the entry at the unit's type offset.
     pub(crate) met: bool,
-    // The budget for attributes to skip.
-    pub(crate) effort: Effort,
 }
 
 impl<'u, 'a> Model for Entries<'u, 'a> {
@@ -217,20 +216,48 @@ impl<'u, 'a> Entries<'u, 'a> {
     /// The next entry without its values, or None at the unit's end. Allocates only for the root. The faults are `Cut`,
     /// `AbbrevCode`, `Form` and `Supplementary` at an entry, `Tree` at the offset where the tree of entries breaks, `Language` at
     /// the root, and `TypeOffset` at the unit, after the last entry of a type unit. After a fault every later call returns the same
-    /// fault. After `NoMemory` the reader is unchanged, and the caller may call again. `NoMemory` also comes where the unit's
-    /// entries have more than 64 attributes for each byte of the unit.
+    /// fault. After `NoMemory` the reader is unchanged, and the caller may call again.
+    ///
+    /// The attributes of the entry are taken of the budget (`attributes_budget`). Where the budget has fewer, the answer is `Past`.
     #[inline]
-    pub fn next_outline(&mut self, alloc: Global) -> Result<Option<Outline<'u, 'a>>, Refusal>
-        ensures { NextIs self.old result self.new }
+    #[tactic(auto, using(crate::proofs::LimitLemmas::passes_front, crate::proofs::LimitLemmas::refused_below))]
+    pub fn next_outline(
+        &mut self,
+        alloc: Global,
+        budget: &mut Budget,
+    ) -> Result<Option<Outline<'u, 'a>>, Refusal>
+        ensures next { NextIs self.old result self.new }
+        ensures taken { TakesNext attribute_cost budget.old result budget.new }
+        ensures past { IfErr result (λ e. OnPast e (PassesLeft attribute_cost self.old budget.old)) }
     {
         match next_in(alloc, self.unit, self.at, self.lists, self.met) {
             Ok(Some(Following { entry, at, lists })) => {
-                self.effort.spend(entry.specs().len())?;
+                budget.take(entry.attributes_len())?;
                 self.met = is_met(self.unit, self.met, &entry);
                 self.at = at;
                 self.lists = Some(lists);
                 Ok(Some(entry))
             }
+            Ok(None) => Ok(None),
+            Err(refused) => Err(refused),
+        }
+    }
+
+    // The first of the remaining entries, which stays the first.
+    #[tactic(auto, using(crate::proofs::LimitLemmas::first_given, crate::proofs::LimitLemmas::first_refused))]
+    pub(crate) fn first(&self, alloc: Global) -> Result<Option<Outline<'u, 'a>>, Refusal>
+        ensures { FirstIs self.now result }
+    {
+        match next_in(alloc, self.unit, self.at, self.lists, self.met) {
+            Ok(
+                Some(
+                    Following {
+                        entry,
+                        at: _,
+                        lists: _,
+                    },
+                ),
+            ) => Ok(Some(entry)),
             Ok(None) => Ok(None),
             Err(refused) => Err(refused),
         }

@@ -1,6 +1,7 @@
 // Abbreviations, with the size of their entries' values where it is fixed.
-ghost use Rattle.std.specs.Prelude.{◌≡◌, IfOk, IfSome};
+ghost use Rattle.std.specs.Prelude.{◌≡◌, IfErr, IfOk, IfSome};
 ghost use Rattle.std.specs.Option.{option_copied};
+ghost use Rattle.abi_base.specs.declared.fault.NoMemory.TheVariants.{Allocation};
 ghost use Rattle.dwarf_forms.specs.abbreviations.Abbrevs.{abbrev_of};
 ghost use Rattle.dwarf_forms.specs.abbreviations.LeastBytes.{least_bytes_of};
 ghost use Rattle.dwarf_units.specs.Sizes.{AreSizes, EndBehind, IsSizeIn};
@@ -59,7 +60,8 @@ fn whole_size(specs: &[Spec]) -> Option<u16>
 
 // The sizes for the codes of a table from 1 up to the first gap.
 fn sizes_of(alloc: Global, table: &Table) -> Result<Vec<Option<u16>>, NoMemory>
-    ensures { IfOk result (λ sizes. AreSizes table.now sizes.items) }
+    ensures sizes { IfOk result (λ sizes. AreSizes table.now sizes.items) }
+    ensures named { IfErr result (λ e. e ≡ Allocation) }
 {
     let mut sizes = Vec::with_capacity(alloc, USUAL_CODES)?;
     // No abbreviation has the code 0.
@@ -74,9 +76,10 @@ fn sizes_of(alloc: Global, table: &Table) -> Result<Vec<Option<u16>>, NoMemory>
 }
 
 impl SizedTable {
-    /// The table with its sizes, or `NoMemory`.
+    /// The table with its sizes. Fails only where an allocation does.
     pub fn of(alloc: Global, table: Table) -> Result<SizedTable, NoMemory>
-        ensures { IfOk result (λ sized. sized ≡ table) }
+        ensures sized { IfOk result (λ sized. sized ≡ table) }
+        ensures named { IfErr result (λ e. e ≡ Allocation) }
     {
         let sizes = sizes_of(alloc, &table)?;
         Ok(SizedTable { table, sizes })

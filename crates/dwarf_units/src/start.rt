@@ -1,5 +1,7 @@
 // The readers of a section's units and of a unit's entries, at their start.
-ghost use Rattle.std.specs.Prelude.{◌≡◌, None};
+ghost use Rattle.std.specs.Prelude.{◌≡◌, ◌-◌, None, length};
+ghost use Rattle.abi_base.specs.Budgets.{fresh};
+ghost use Rattle.abi_base.specs.declared.limit.Limit.TheVariants as limit;
 ghost use Rattle.dwarf_units.specs.Plain.{plain_unit};
 ghost use Rattle.dwarf_units.specs.Sequence.{units_of};
 ghost use Rattle.dwarf_units.specs.Units.{entries_of};
@@ -9,7 +11,7 @@ use crate::reader::Entries;
 use crate::sequence::Units;
 use crate::table::Tables;
 use crate::unit::Unit;
-use abi_base::{Effort, Limit};
+use abi_base::{Budget, Limit};
 use dwarf_forms::Sections;
 
 /// All units of `.debug_info`, in order, each with its abbreviations.
@@ -20,7 +22,7 @@ pub fn units<'a>(sections: &Sections<'a>) -> Units<'a>
         info: sections.info,
         abbrevs: sections.abbrev,
         at: 0,
-        tables: Tables::of(sections.abbrev),
+        tables: Tables::none(),
     }
 }
 
@@ -41,9 +43,23 @@ pub fn entries<'u, 'a>(unit: &'u Unit<'a>) -> Entries<'u, 'a>
         at: (unit.offset.get() + header) as usize,
         lists: None,
         met: false,
-        effort: Effort::for_bytes(
-            Limit::Attributes,
-            unit.end.get().saturating_sub(unit.offset.get()) as usize,
-        ),
     }
+}
+
+/// The budget for the abbreviation tables of units: 64 bytes of tables for each byte of their section, as units can share bytes of
+/// tables.
+pub fn tables_budget(sections: &Sections<'_>) -> Budget
+    ensures { result ≡ fresh limit.Abbreviations (length sections.now.abbrev.now) }
+{
+    Budget::of(Limit::Abbreviations, sections.abbrev.len())
+}
+
+/// The budget for the attributes of a unit's entries: 64 for each byte of the unit, as attributes can have no bytes.
+pub fn attributes_budget(unit: &Unit<'_>) -> Budget
+    ensures { result ≡ fresh limit.Attributes (unit.now.end - unit.now.offset) }
+{
+    Budget::of(
+        Limit::Attributes,
+        unit.end.get().saturating_sub(unit.offset.get()) as usize,
+    )
 }

@@ -1,11 +1,14 @@
 // Abbreviation tables, which units share.
-ghost use Rattle.std.specs.Prelude.{◌≡◌, IfOk};
-ghost use Rattle.abi_base.specs.Outcome.{Judges};
+ghost use Rattle.std.specs.Prelude.{◌≡◌, ℕ, IfErr, IfOk, List};
+ghost use Rattle.abi_base.specs.declared.fault.NoMemory.TheVariants.{Allocation};
+ghost use Rattle.abi_base.specs.Outcome.{Judges, OnPast};
 ghost use Rattle.dwarf_forms.specs.abbreviations.Abbrevs.{table_run};
+ghost use Rattle.dwarf_forms.specs.abbreviations.LeastBytes.{least_bytes_of};
 ghost use Rattle.dwarf_units.specs.KeptTables.{IsKept, IsTable};
+ghost use Rattle.dwarf_units.specs.Limits.{TablePasses, TakesAtMost};
 
 use crate::sizes::SizedTable;
-use abi_base::{Effort, Limit, NoMemory, Refusal};
+use abi_base::{Budget, NoMemory, Refusal};
 use dwarf_forms::DebugAbbrevOffset;
 use dwarf_forms::abbreviations::table;
 use std::alloc::Global;
@@ -16,7 +19,7 @@ use std::rc::Rc;
 // Compilers give each unit a table of its own, and units that share one mostly follow one another.
 const MOST_KEPT_BYTES: usize = 0x2_0000;
 
-/// The tables that were read, and the budget for reading more.
+/// The tables that were read.
 #[derive(Drop)]
 pub struct Tables {
     // The stored tables, by their offsets in `.debug_abbrev`. None before the first one.
@@ -24,18 +27,16 @@ pub struct Tables {
     // How many more bytes the stored tables may have in the section. More than one table is stored only while all have no more
     // bytes than the section and than `MOST_KEPT_BYTES`.
     pub room: usize,
-    pub effort: Effort,
 }
 
 impl Tables {
     /// No tables.
-    pub fn of(abbrevs: &[u8]) -> Tables
-        ensures { IsKept abbrevs.now result }
+    pub fn none() -> Tables
+        ensures { (abbrevs : List ℕ) → IsKept abbrevs result }
     {
         Tables {
             kept: None,
             room: 0,
-            effort: Effort::for_bytes(Limit::Abbreviations, abbrevs.len()),
         }
     }
 }
@@ -51,7 +52,8 @@ fn keep(
 ) -> Result<(), NoMemory>
     requires kept { IsKept abbrevs.now tables.old }
     requires read { IsTable abbrevs.now at table.value }
-    ensures { IsKept abbrevs.now tables.new }
+    ensures kept { IsKept abbrevs.now tables.new }
+    ensures named { IfErr result (λ e. e ≡ Allocation) }
 {
     let size = table.least_bytes();
     if size > tables.room {
@@ -72,37 +74,45 @@ fn keep(
     Ok(())
 }
 
-// Reads the table at an offset, and stores it.
+// Reads the table at an offset, and stores it. Takes its bytes of the budget.
+#[tactic(auto, using(crate::proofs::LimitLemmas::takes_all))]
 fn read_table(
     alloc: Global,
     abbrevs: &[u8],
     at: DebugAbbrevOffset,
     tables: &mut Tables,
+    budget: &mut Budget,
 ) -> Result<Rc<SizedTable>, Refusal>
     requires { IsKept abbrevs.now tables.old }
     ensures judged { Judges result (table_run abbrevs.now at).end }
     ensures read { IfOk result (λ t. t.value ≡ (table_run abbrevs.now at).items) }
     ensures kept { IsKept abbrevs.now tables.new }
+    ensures taken { IfOk result (λ t. TakesAtMost budget.old budget.new (least_bytes_of t.value)) }
+    ensures past { IfErr result (λ e. OnPast e (TablePasses abbrevs.now at budget.old)) }
 {
     let read = table(alloc, abbrevs, at)?;
-    tables.effort.spend(read.least_bytes())?;
+    budget.take(read.least_bytes())?;
     let table = Rc::new(alloc, SizedTable::of(alloc, read)?)?;
     keep(alloc, abbrevs, at, table.clone()?, tables)?;
     Ok(table)
 }
 
-/// The table at an offset: the stored one if there is one, else read and stored. `NoMemory` also comes where the tables that were
-/// read have more than 64 times the bytes of the section.
+/// The table at an offset: the stored one if there is one, else read and stored. Takes the bytes of a table that it reads of the
+/// budget: where they would be more than it has, the answer is `Past`.
+#[tactic(auto, using(crate::proofs::LimitLemmas::takes_none))]
 pub fn table_in(
     alloc: Global,
     abbrevs: &[u8],
     at: DebugAbbrevOffset,
     tables: &mut Tables,
+    budget: &mut Budget,
 ) -> Result<Rc<SizedTable>, Refusal>
     requires { IsKept abbrevs.now tables.old }
     ensures judged { Judges result (table_run abbrevs.now at).end }
     ensures read { IfOk result (λ t. t.value ≡ (table_run abbrevs.now at).items) }
     ensures kept { IsKept abbrevs.now tables.new }
+    ensures taken { IfOk result (λ t. TakesAtMost budget.old budget.new (least_bytes_of t.value)) }
+    ensures past { IfErr result (λ e. OnPast e (TablePasses abbrevs.now at budget.old)) }
 {
     let found = match &tables.kept {
         Some(kept) => kept.get(&at.get()),
@@ -110,6 +120,6 @@ pub fn table_in(
     };
     match found {
         Some(table) => Ok(table.clone()?),
-        None => read_table(alloc, abbrevs, at, tables),
+        None => read_table(alloc, abbrevs, at, tables, budget),
     }
 }

@@ -1,7 +1,7 @@
 // The attribute values of an entry, and the offset after them.
-ghost use Rattle.std.specs.Prelude.{◌≡◌, Some};
+ghost use Rattle.std.specs.Prelude.{◌≡◌, IfErr, Some};
 ghost use Rattle.dwarf_forms.specs.abbreviations.Abbrevs.{abbrev_of};
-ghost use Rattle.abi_base.specs.Outcome.{Gives};
+ghost use Rattle.abi_base.specs.Outcome.{Gives, OnPast};
 ghost use Rattle.dwarf_forms.specs.Values.{place_after, value_at};
 ghost use Rattle.dwarf_units.specs.Plain.{plain_unit};
 ghost use Rattle.dwarf_units.specs.Units.{values_at};
@@ -32,7 +32,8 @@ pub fn values_in(
     specs: &[Spec],
     at: usize,
 ) -> Result<(List<(u64, Value)>, usize), Refusal>
-    ensures { Gives result (values_at (plain_unit unit.now) entry specs.now at) }
+    ensures read { Gives result (values_at (plain_unit unit.now) entry specs.now at) }
+    ensures past { IfErr result (λ e. OnPast e (λ l. ⊥)) }
 {
     let mut attributes = List::of(Vec::with_capacity(alloc, specs.len())?);
     let mut place = at;

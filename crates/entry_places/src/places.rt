@@ -1,6 +1,8 @@
 // The entries of a library, and what locates their files.
-ghost use Rattle.std.specs.Prelude.{◌≡◌, ◌<◌, length, IfOk};
+ghost use Rattle.std.specs.Prelude.{◌≡◌, ◌<◌, length, IfErr, IfOk};
 ghost use Rattle.std.specs.Option.{option_copied};
+ghost use Rattle.abi_base.specs.Outcome.{OnLimit};
+ghost use Rattle.dwarf_units.specs.Limits.{UnitsPass};
 ghost use Rattle.entry_places.specs.Coordinates.{directory_of, entries_in, if_sound, text_of};
 ghost use Rattle.entry_places.specs.Known.{IsOfUnit, program_of};
 ghost use Rattle.entry_places.specs.Plain.{debug_bytes};
@@ -44,7 +46,8 @@ impl<'a> EntryPlaces<'a> {
         sections: &Sections<'a>,
         line: &'a [u8],
     ) -> Result<Option<EntryPlaces<'a>>, NoMemory>
-        ensures { IfOk result (λ places. places ≡ if_sound (debug_bytes sections.now line.now)) }
+        ensures read { IfOk result (λ places. places ≡ if_sound (debug_bytes sections.now line.now)) }
+        ensures past { IfErr result (λ e. OnLimit e (UnitsPass sections.now.info.now sections.now.abbrev.now)) }
     {
         match read_tree(alloc, sections) {
             Ok(tree) => Ok(Some(EntryPlaces {

@@ -9,7 +9,7 @@ ghost use Rattle.listings.specs.entries.EntryLines.{entry_line, line_of, listing
 
 use abi_base::Refusal;
 use dwarf_forms::Sections;
-use dwarf_units::{Unit, entries, units};
+use dwarf_units::{Unit, attributes_budget, entries, tables_budget, units};
 use elf::file::read_elf;
 use elf::sections::debug_sections;
 use std::alloc::{AllocError, Global};
@@ -27,9 +27,10 @@ fn push_unit(alloc: Global, text: &mut String, unit: &Unit<'_>) -> Result<(), Re
     ensures judged { Judges result (entries_of (plain_unit unit.now)).end }
     ensures lines { OnOk result (string_bytes text.new ≡ string_bytes text.old ++ flat_map entry_line (entries_of (plain_unit unit.now)).items) }
 {
+    let mut budget = attributes_budget(unit);
     let mut left = entries(unit);
     'list: loop {
-        match left.next_outline(alloc) {
+        match left.next_outline(alloc, &mut budget) {
             Ok(Some(entry)) => push_line(text, entry.offset().get(), entry.depth(), entry.tag())?,
             Ok(None) => return Ok(()),
             Err(refused) => return Err(refused),
@@ -44,9 +45,10 @@ fn lines_of(alloc: Global, sections: &Sections<'_>) -> Result<String, Refusal>
     ensures lines { IfOk result (λ text. string_bytes text ≡ flat_map entry_line (all_entries sections.now.info.now sections.now.abbrev.now)) }
 {
     let mut text = String::new(alloc);
+    let mut budget = tables_budget(sections);
     let mut left = units(sections);
     'list: loop {
-        match left.next_unit(alloc) {
+        match left.next_unit(alloc, &mut budget) {
             Ok(Some(unit)) => match push_unit(alloc, &mut text, &unit) {
                 Ok(()) => {}
                 Err(refused) => return Err(refused),

@@ -13,6 +13,6 @@ pub children-preserved : goal.children-preserved
 children-preserved c = record {
   taken = taking_more c.args.self.now c.args.e c.args.tag c.in-Some.child c.children.list.items c.take_tagged.new.list.items c.next_child-next-in-Some.result
       (subst (λ (next : Option ℕ). IsTaking c.args.self.now c.args.e c.args.tag c.children.list.items next) c.in-Some.is c.children.invariant.taken)
-      c.next_child-next-in-Some.ensures.next c.in_ok-take_tagged.ensures;
+      c.next_child-next-in-Some.ensures.next c.in_ok-take_tagged.ensures.taken;
   inside = c.next_child-next-in-Some.ensures.inside;
 }

@@ -37,8 +37,8 @@ invariant_of-self c =
     subst (λ (l : List AbbreviationLayout). LieInside info abbrevs units l grown.slots stored) (sym same_shapes)
     (subst (λ (l : List EntryRecord). LieInside info abbrevs units shapes grown.slots l) (sym same_entries) extended))
 
-pub returns : goal.returns
-returns c =
+pub returns-clause-pushed : goal.returns-clause-pushed
+returns-clause-pushed c =
     let info = c.self.inside.info.now in
     let abbrevs = c.self.inside.abbrevs.now in
     let units = c.self.inside.units.items in

@@ -5,8 +5,8 @@ use Rattle.dwarf_tree.specs.Trees.{TreeEntry}
 use Rattle.dwarf_tree.proofs.KeptLemmas.{entries_stay}
 use Rattle.dwarf_tree.proofs.tree_builder.TreeBuilder.push_head.Goals as goal
 
-pub returns : goal.returns
-returns c =
+pub returns-clause-pushed : goal.returns-clause-pushed
+returns-clause-pushed c =
     let info = c.self.inside.info.now in
     let abbrevs = c.self.inside.abbrevs.now in
     let units = c.self.inside.units.items in
