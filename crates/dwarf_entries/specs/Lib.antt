@@ -2,6 +2,7 @@ pub mod Addresses
 pub mod Chains
 pub mod Debug
 pub mod First
+pub mod Limits
 pub mod Pass
 pub mod Places
 pub mod Rows

@@ -1,7 +1,9 @@
 // The debug information of a file.
-ghost use Rattle.std.specs.Prelude.{◌≡◌, ◌<◌, None, filter, length, All, Contains, IfOk, IfSome};
+ghost use Rattle.std.specs.Prelude.{◌≡◌, ◌<◌, None, filter, length, All, Contains, IfErr, IfOk, IfSome, OnOk};
 ghost use Rattle.std.specs.Option.{option_copied, option_map_or, ForSome};
-ghost use Rattle.abi_base.specs.Outcome.{Judges};
+ghost use Rattle.abi_base.specs.declared.fault.NoMemory.TheVariants.{Allocation};
+ghost use Rattle.abi_base.specs.Outcome.{Judges, OnPast};
+ghost use Rattle.dwarf_entries.specs.Limits.{DebugPasses, IsWithinLimits};
 ghost use Rattle.dwarf_tree.specs.Trees.{entry_at, own_of, entry_of, children_of, next_child_of, IsOrdered, is_tagged};
 ghost use Rattle.dwarf_entries.specs.Debug.{plain_sections, dwarf_of};
 ghost use Rattle.dwarf_entries.specs.Chains.{attribute_along, origin_of, signed_of, target_of};
@@ -15,7 +17,7 @@ use crate::addresses::{entry_address, is_declared_only, is_true, part};
 use crate::names::name;
 use crate::pass::own_fault;
 use crate::places::place_of;
-use crate::range_effort::spend_for_ranges;
+use crate::range_bytes::take_for_ranges;
 use crate::source::Source;
 use crate::typed::entries_by_address;
 use abi_base::{NoMemory, Refusal};
@@ -48,18 +50,21 @@ impl<'a> Model for Dwarf<'a> {
 }
 
 /// The debug information of a file: all entries of all units, by offset. Err is the first fault in the structure of units and
-/// entries or, if there is none, the first fault by offset in the attributes of entries.
-#[tactic(auto, unfolding(crate::specs::Pass::dwarf_fault))]
+/// entries or, if there is none, the first fault by offset in the attributes of entries. That a limit is passed is answered only
+/// where abbreviation tables, the attributes of a unit or range lists count more than allowed.
+#[tactic(auto, using(crate::proofs::LimitLemmas::units_pass), unfolding(crate::specs::Pass::dwarf_fault))]
 pub fn tree<'a>(alloc: Global, sections: Sections<'a>) -> Result<Dwarf<'a>, Refusal>
     ensures judged { Judges result (dwarf_fault (plain_sections sections.entry)) }
     ensures read { IfOk result (λ d. d ≡ dwarf_of (plain_sections sections.entry)) }
+    ensures within { OnOk result (IsWithinLimits (plain_sections sections.entry)) }
+    ensures past { IfErr result (λ e. OnPast e (DebugPasses (plain_sections sections.entry))) }
 {
     let entries = match read_tree(alloc, &sections) {
         Ok(entries) => entries,
         Err(refused) => return Err(refused),
     };
     let source = Source::of(alloc, sections, entries)?;
-    spend_for_ranges(&source)?;
+    take_for_ranges(&source)?;
     match own_fault(&source) {
         Some(fault) => return Err(Refusal::Fault(fault)),
         None => {}
@@ -113,6 +118,7 @@ impl<'a> Dwarf<'a> {
         requires { e < length self.now.tree.entries }
         ensures children { IfOk result (λ list. list.items ≡ filter (is_tagged self.now.tree tag) (children_of self.now.tree e)) }
         ensures inside { IfOk result (λ list. All (λ child. child < length self.now.tree.entries) list.items) }
+        ensures named { IfErr result (λ e. e ≡ Allocation) }
     {
         children_stand_one_deeper();
         self.source.tree().tagged(alloc, e, tag)

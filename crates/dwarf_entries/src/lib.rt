@@ -12,7 +12,7 @@ mod links;
 mod names;
 mod pass;
 mod places;
-mod range_effort;
+mod range_bytes;
 mod source;
 mod tags;
 mod typed;

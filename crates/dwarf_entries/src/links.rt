@@ -1,5 +1,6 @@
 // The tree of entries, and the references between its entries.
-ghost use Rattle.std.specs.Prelude.{◌≡◌, ◌<◌, Some, None, length, is_some, find, IfSome, IfOk};
+ghost use Rattle.std.specs.Prelude.{◌≡◌, ◌<◌, Some, None, length, is_some, find, IfErr, IfSome, IfOk};
+ghost use Rattle.abi_base.specs.declared.fault.NoMemory.TheVariants.{Allocation};
 ghost use Rattle.std.specs.Option.{option_map, option_map_or};
 ghost use Rattle.abi_base.specs.Limits.{chain_limit};
 ghost use Rattle.dwarf_tree.specs.Trees.{PlainTree, entry_at, head_at, own_of, entry_of};
@@ -42,7 +43,8 @@ impl<'a> Model for Links<'a> {
 impl<'a> Links<'a> {
     // The links of a tree.
     pub(crate) fn of(alloc: Global, tree: Tree<'a>) -> Result<Links<'a>, NoMemory>
-        ensures { IfOk result (λ l. l ≡ tree.entry) }
+        ensures links { IfOk result (λ l. l ≡ tree.entry) }
+        ensures named { IfErr result (λ e. e ≡ Allocation) }
     {
         let signed = units_by_signature(alloc, &tree)?;
         Ok(Links { tree, signed })
@@ -282,7 +284,8 @@ impl<'a> Links<'a> {
 
 // The first unit of each signature.
 fn units_by_signature(alloc: Global, tree: &Tree<'_>) -> Result<BTreeMap<u64, usize>, NoMemory>
-    ensures { IfOk result (λ places. HoldUnits places tree.now) }
+    ensures units { IfOk result (λ places. HoldUnits places tree.now) }
+    ensures named { IfErr result (λ e. e ≡ Allocation) }
 {
     let mut places = BTreeMap::new(alloc);
     for unit in 0..tree.units_len() {

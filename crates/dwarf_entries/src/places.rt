@@ -1,5 +1,6 @@
 // Maps from numbers to the first place of each.
-ghost use Rattle.std.specs.Prelude.{◌≡◌, ℕ, if◌then◌else◌, Some, None, OnOk};
+ghost use Rattle.std.specs.Prelude.{◌≡◌, ℕ, if◌then◌else◌, Some, None, IfErr, OnOk};
+ghost use Rattle.abi_base.specs.declared.fault.NoMemory.TheVariants.{Allocation};
 ghost use Rattle.std.specs.Option.{option_or};
 ghost use Rattle.dwarf_entries.specs.Addresses.{is_some_number};
 ghost use Rattle.dwarf_entries.specs.Places.{place_under};
@@ -14,7 +15,8 @@ pub(crate) fn keep_first<P: Drop>(
     number: Option<u64>,
     place: P,
 ) -> Result<(), NoMemory>
-    ensures { OnOk result ((q : ℕ) → place_under places.new q ≡ option_or (place_under places.old q) (if is_some_number q number then Some place else None)) }
+    ensures kept { OnOk result ((q : ℕ) → place_under places.new q ≡ option_or (place_under places.old q) (if is_some_number q number then Some place else None)) }
+    ensures named { IfErr result (λ e. e ≡ Allocation) }
 {
     match number {
         Some(number) => {

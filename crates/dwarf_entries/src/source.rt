@@ -1,5 +1,6 @@
 // The debug sections and the tree of their entries, with the context of each unit.
-ghost use Rattle.std.specs.Prelude.{◌≡◌, ◌<◌, length, is_some, IfOk};
+ghost use Rattle.std.specs.Prelude.{◌≡◌, ◌<◌, length, is_some, IfErr, IfOk};
+ghost use Rattle.abi_base.specs.declared.fault.NoMemory.TheVariants.{Allocation};
 ghost use Rattle.std.specs.Option.{option_copied};
 ghost use Rattle.std.specs.Result.{result_map_both};
 ghost use Rattle.abi_base.specs.Numbers as spec;
@@ -46,7 +47,8 @@ fn units_told(
     sections: &Sections,
     tree: &Tree<'_>,
 ) -> Result<Vec<UnitContext>, NoMemory>
-    ensures { IfOk result (λ units. units.items ≡ all_told (debug (plain_sections sections.now) tree.now)) }
+    ensures units { IfOk result (λ units. units.items ≡ all_told (debug (plain_sections sections.now) tree.now)) }
+    ensures named { IfErr result (λ e. e ≡ Allocation) }
 {
     let mut units = Vec::with_capacity(alloc, tree.units_len())?;
     for unit in 0..tree.units_len() {
@@ -63,7 +65,8 @@ impl<'a> Source<'a> {
         sections: Sections<'a>,
         tree: Tree<'a>,
     ) -> Result<Source<'a>, NoMemory>
-        ensures { IfOk result (λ s. s ≡ debug (plain_sections sections.entry) tree.entry) }
+        ensures source { IfOk result (λ s. s ≡ debug (plain_sections sections.entry) tree.entry) }
+        ensures named { IfErr result (λ e. e ≡ Allocation) }
     {
         let units = units_told(alloc, &sections, &tree)?;
         let links = Links::of(alloc, tree)?;

@@ -1,5 +1,6 @@
 // Entries by address.
-ghost use Rattle.std.specs.Prelude.{◌≡◌, ◌<◌, ℕ, length, IfOk};
+ghost use Rattle.std.specs.Prelude.{◌≡◌, ◌<◌, ℕ, length, IfErr, IfOk};
+ghost use Rattle.abi_base.specs.declared.fault.NoMemory.TheVariants.{Allocation};
 ghost use Rattle.dwarf_tree.specs.Trees.{entry_at};
 ghost use Rattle.dwarf_entries.specs.Debug.{is_assembler};
 ghost use Rattle.dwarf_entries.specs.Addresses.{is_some_number, is_typed_at};
@@ -42,7 +43,8 @@ pub(crate) fn entries_by_address(
     alloc: Global,
     source: &Source,
 ) -> Result<BTreeMap<u64, EntryNumber>, NoMemory>
-    ensures { IfOk result (λ places. HoldEntries places source.now) }
+    ensures entries { IfOk result (λ places. HoldEntries places source.now) }
+    ensures named { IfErr result (λ e. e ≡ Allocation) }
 {
     let mut places = BTreeMap::new(alloc);
     source.tree().known();

@@ -1,2 +1,3 @@
 pub mod RangeLists
 pub mod EntrySteps
+pub mod FirstBytes

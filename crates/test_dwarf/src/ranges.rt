@@ -1,6 +1,6 @@
-// The effort that range lists take, worked by hand from the standard.
+// The bytes that are read for the first range of a list, worked by hand from the standard.
 use crate::rows::{bytes_of, cut, number, within_limit};
-use abi_base::{Effort, Limit, NoMemory};
+use abi_base::{Budget, Limit, NoMemory};
 use dwarf_forms::Sections;
 use dwarf_text::Bases;
 use dwarf_text::ranges::*;
@@ -47,10 +47,10 @@ fn list_of(cell: &str) -> ListAt {
 }
 
 // The effort for one byte.
-const EFFORT: usize = 64;
+const BUDGET: usize = 64;
 
 // The columns of a line: the position of a list | the bytes of its section | the number of bytes up to the end of its first range.
-const EFFORTS: &str = "\
+const ROWS: &str = "\
 offset 0|04 08 10 00|3
 offset 0|05 00 40 00 00 00 00 00 00 04 08 09 04 08 09 00|12
 offset 9|05 00 40 00 00 00 00 00 00 04 08 09 04 08 09 00|3
@@ -61,41 +61,39 @@ pairs 0|ff ff ff ff ff ff ff ff 00 20 00 00 00 00 00 00 08 00 00 00 00 00 00 00 
 pairs 0|00 00 00 00 00 00 00 00 00 00 00 00 00 00 00 00|0
 ";
 
-// Expects the first range to take all of this effort, and no more.
-fn check_spent(rt: &impl Abort, list: ListAt, bytes: &[u8], want: usize) {
-    let mut effort = Effort::for_bytes(Limit::RangeLists, 1);
-    let spent = spend_first(list, &BASES, &sections(bytes), &mut effort).is_ok();
-    let rest = effort.spend(EFFORT.saturating_sub(want)).is_ok();
-    let more = effort.spend(1).is_ok();
+// Expects the first range to take all of this of a budget, and no more.
+fn check_taken(rt: &impl Abort, list: ListAt, bytes: &[u8], want: usize) {
+    let mut budget = Budget::of(Limit::RangeLists, 1);
+    let taken = take_first(list, &BASES, &sections(bytes), &mut budget).is_ok();
+    let rest = budget.take(BUDGET.saturating_sub(want)).is_ok();
+    let more = budget.take(1).is_ok();
     assert_eq!(rt;
-        [spent, rest, more],
+        [taken, rest, more],
         [true, true, false],
         "{list:?} of {bytes:?}"
     );
 }
 
-fn check_effort(rt: &impl Abort, alloc: Global, row: &str) -> Result<(), NoMemory> {
+fn check_row(rt: &impl Abort, alloc: Global, row: &str) -> Result<(), NoMemory> {
     let (list, cells) = cut(row);
     let (bytes, want) = cut(cells);
     let bytes = bytes_of(alloc, bytes)?;
-    check_spent(rt, list_of(list), bytes.as_slice(), number(want) as usize);
+    check_taken(rt, list_of(list), bytes.as_slice(), number(want) as usize);
     Ok(())
 }
 
 #[test]
-fn a_list_takes_the_effort_for_its_bytes_up_to_its_first_range(
-    rt: HostRuntime,
-) -> Result<(), Fail> {
-    for row in EFFORTS.lines() {
-        check_effort(&rt, rt.alloc(), row)?;
+fn a_list_takes_its_bytes_up_to_its_first_range(rt: HostRuntime) -> Result<(), Fail> {
+    for row in ROWS.lines() {
+        check_row(&rt, rt.alloc(), row)?;
     }
     Ok(())
 }
 
 #[test]
-fn without_effort_no_list_is_read(rt: HostRuntime) {
-    let mut no_effort = Effort::for_bytes(Limit::RangeLists, 0);
+fn without_a_budget_no_list_is_read(rt: HostRuntime) {
+    let mut nothing = Budget::of(Limit::RangeLists, 0);
     let lists = sections(&[5, 0, 0x40, 0, 0, 0, 0, 0, 0, 4, 8, 9, 4, 8, 9, 0]);
-    let refused = spend_first(ListAt::Offset(0), &BASES, &lists, &mut no_effort);
+    let refused = take_first(ListAt::Offset(0), &BASES, &lists, &mut nothing);
     assert!(rt; refused.is_err());
 }

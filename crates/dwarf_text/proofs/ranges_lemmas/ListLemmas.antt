@@ -82,7 +82,7 @@ kind_after addr addr_base entry bytes code s x next h =
     fields_same r e = ap (λ (p : Entry × State). let o : Result (Entry × State) Fault = Ok p in o) (same_Ok r (x, next) e)
 
 -- how many bytes of a section remain from a state on
-abbrev left : List ℕ → State → ℕ
+abbrev pub left : List ℕ → State → ℕ
 left bytes s = length bytes - s.0
 
 list_after : (addr : List ℕ) (addr_base : Option ℕ) (entry : ℕ) (bytes : List ℕ) (s : State) (x : Entry) (next : State) → list_step addr addr_base entry bytes s ≡ Ok (x, next) → left bytes next < left bytes s
@@ -93,7 +93,7 @@ list_after addr addr_base entry bytes s x next h =
     let after = kind_after addr addr_base entry bytes code (s.0 + 1, s.1) x next (rw is at h) in
     omega (arith, inside, after))
 
-list_falls : (addr : List ℕ) (addr_base : Option ℕ) (entry : ℕ) (bytes : List ℕ) → Falls (list_step addr addr_base entry bytes) (left bytes)
+pub list_falls : (addr : List ℕ) (addr_base : Option ℕ) (entry : ℕ) (bytes : List ℕ) → Falls (list_step addr addr_base entry bytes) (left bytes)
 list_falls addr addr_base entry bytes = record { falls = list_after addr addr_base entry bytes }
 
 pair_after : (entry : ℕ) (bytes : List ℕ) (s : State) (x : Entry) (next : State) → pair_step entry bytes s ≡ Ok (x, next) → left bytes next < left bytes s
@@ -111,7 +111,7 @@ pair_after entry bytes s x next h =
           omega (arith, inside, place)
     ]))
 
-pair_falls : (entry : ℕ) (bytes : List ℕ) → Falls (pair_step entry bytes) (left bytes)
+pub pair_falls : (entry : ℕ) (bytes : List ℕ) → Falls (pair_step entry bytes) (left bytes)
 pair_falls entry bytes = record { falls = pair_after entry bytes }
 
 -- ---- the two kinds of lists

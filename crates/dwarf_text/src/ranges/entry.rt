@@ -1,11 +1,12 @@
 // The entries of range lists, one by one.
-ghost use Rattle.std.specs.Prelude.{◌≡◌, ◌+◌, ◌<◌, ◌≤◌, length, IfOk, IfSome};
+ghost use Rattle.std.specs.Prelude.{◌≡◌, ◌+◌, ◌-◌, ◌<◌, ◌≤◌, length, IfNone, IfOk, IfSome};
 ghost use Rattle.abi_base.specs.declared.fault.FaultKind.TheVariants as kind;
 ghost use Rattle.dwarf_forms.specs.Values.{fault};
 ghost use Rattle.dwarf_text.specs.ranges.RangeLists.{field_at, fields_step, kind_step, list_step, pair_step, pair_means};
 ghost use Rattle.dwarf_text.specs.ranges.RangeLists as spec;
 ghost use Rattle.dwarf_text.specs.declared.ranges.layout.Field.TheVariants as the_field;
 ghost use Rattle.dwarf_text.specs.ranges.EntrySteps.{seen_entry, seen_step};
+ghost use Rattle.dwarf_text.specs.ranges.FirstBytes.{bytes_behind, list_bytes, pair_bytes};
 
 use crate::ranges::constants::{BASE_SELECTION, DW_RLE_end_of_list};
 use crate::ranges::layout::{Field, Layout, Role, layout_by_kind};
@@ -172,6 +173,33 @@ impl<'a> Source<'a> {
                 base,
                 after,
             }))
+        }
+    }
+
+    // The entry at an offset in `.debug_rnglists`, or None where the list ends or has a fault: how many bytes are read up to the
+    // first range.
+    pub(crate) fn sized_list(&self, at: usize) -> Option<Entry>
+        ensures size { IfSome result (λ e. list_bytes self.now.addr.now self.now.addr_base self.now.entry self.now.bytes.now at ≡ (e.after - at) + bytes_behind (list_step self.now.addr.now self.now.addr_base self.now.entry self.now.bytes.now) (length self.now.bytes.now) e.start e.after) }
+        ensures none { IfNone result (list_bytes self.now.addr.now self.now.addr_base self.now.entry self.now.bytes.now at ≡ 0) }
+        ensures after { IfSome result (λ e. at < e.after) }
+        ensures inside { IfSome result (λ e. e.after ≤ length self.now.bytes.now) }
+    {
+        match self.list_entry(at, 0) {
+            Ok(entry) => entry,
+            Err(_) => None,
+        }
+    }
+
+    // The same of the pair at an offset in `.debug_ranges`.
+    pub(crate) fn sized_pair(&self, at: usize) -> Option<Entry>
+        ensures size { IfSome result (λ e. pair_bytes self.now.entry self.now.bytes.now at ≡ (e.after - at) + bytes_behind (pair_step self.now.entry self.now.bytes.now) (length self.now.bytes.now) e.start e.after) }
+        ensures none { IfNone result (pair_bytes self.now.entry self.now.bytes.now at ≡ 0) }
+        ensures after { IfSome result (λ e. at < e.after) }
+        ensures inside { IfSome result (λ e. e.after ≤ length self.now.bytes.now) }
+    {
+        match self.pair_entry(at, 0) {
+            Ok(entry) => entry,
+            Err(_) => None,
         }
     }
 }

@@ -1,12 +1,15 @@
 // The start of the first range of a list.
-ghost use Rattle.std.specs.Prelude.{◌≡◌, ◌≤◌};
+ghost use Rattle.std.specs.Prelude.{◌≡◌, ◌≤◌, ◌<◌, ◌+◌, IfErr, OnErr, OnOk};
+ghost use Rattle.abi_base.specs.Budgets.{with_taken};
 ghost use Rattle.abi_base.specs.declared.fault.FaultKind.TheVariants as kind;
+ghost use Rattle.abi_base.specs.declared.fault.NoMemory.TheVariants.{Past};
+ghost use Rattle.dwarf_text.specs.ranges.FirstBytes.{first_bytes_of, list_bytes, pair_bytes};
 ghost use Rattle.dwarf_text.specs.ranges.RangeLists.{first_start, list_run, pair_run, place_of_list, first_address_of};
 
 use crate::Bases;
 use crate::ranges::entry::Source;
 use crate::ranges::lists::ListAt;
-use abi_base::{Effort, Fault, FaultKind, NoMemory, table_offset};
+use abi_base::{Budget, Fault, FaultKind, NoMemory, table_offset};
 use dwarf_forms::{DebugInfoOffset, Sections};
 
 // The offset of the list with this index: the entry of the unit's offset table, plus the unit's base.
@@ -106,44 +109,57 @@ pub fn first_address(
     }
 }
 
-// Spends the budget for the entries from an offset up to the first range, of pairs or of a list.
-fn spend_entries(
-    source: &Source,
-    of_pairs: bool,
-    place: u64,
-    effort: &mut Effort,
-) -> Result<(), NoMemory>
-    ensures { effort.new.left ≤ effort.old.left }
+// Takes the bytes of the entries from an offset in `.debug_rnglists` up to the first range.
+fn take_list(source: &Source, place: u64, budget: &mut Budget) -> Result<(), NoMemory>
+    requires { budget.old.taken ≤ budget.old.most }
+    ensures taken { OnOk result (budget.new ≡ with_taken budget.old (list_bytes source.now.addr.now source.now.addr_base source.now.entry source.now.bytes.now place)) }
+    ensures within { OnOk result (budget.old.taken + list_bytes source.now.addr.now source.now.addr_base source.now.entry source.now.bytes.now place ≤ budget.old.most) }
+    ensures past { OnErr result (budget.old.most < budget.old.taken + list_bytes source.now.addr.now source.now.addr_base source.now.entry source.now.bytes.now place) }
+    ensures named { IfErr result (λ e. e ≡ Past budget.old.limit) }
 {
     let mut at = place as usize;
-    'walk: loop {
-        let read = if of_pairs {
-            source.pair_entry(at, 0)
-        } else {
-            source.list_entry(at, 0)
-        };
-        match read {
-            Ok(Some(entry)) => {
-                effort.spend(entry.after - at)?;
-                if entry.start.is_some() {
-                    return Ok(());
-                }
-                at = entry.after;
-            }
-            _ => return Ok(()),
+    'walk: while let Some(entry) = source.sized_list(at) {
+        budget.take(entry.after - at)?;
+        if entry.start.is_some() {
+            return Ok(());
         }
+        at = entry.after;
     }
+    Ok(())
 }
 
-/// Spends the budget for the bytes of a list that `first_address` reads: those of its entries up to the first range, or of a faulty
-/// list those of the entries before the fault. Fails where the budget is smaller.
-pub fn spend_first(
+// Takes the bytes of the pairs from an offset in `.debug_ranges` up to the first range.
+fn take_pairs(source: &Source, place: u64, budget: &mut Budget) -> Result<(), NoMemory>
+    requires { budget.old.taken ≤ budget.old.most }
+    ensures taken { OnOk result (budget.new ≡ with_taken budget.old (pair_bytes source.now.entry source.now.bytes.now place)) }
+    ensures within { OnOk result (budget.old.taken + pair_bytes source.now.entry source.now.bytes.now place ≤ budget.old.most) }
+    ensures past { OnErr result (budget.old.most < budget.old.taken + pair_bytes source.now.entry source.now.bytes.now place) }
+    ensures named { IfErr result (λ e. e ≡ Past budget.old.limit) }
+{
+    let mut at = place as usize;
+    'walk: while let Some(entry) = source.sized_pair(at) {
+        budget.take(entry.after - at)?;
+        if entry.start.is_some() {
+            return Ok(());
+        }
+        at = entry.after;
+    }
+    Ok(())
+}
+
+/// Takes of the budget the bytes of a list that `first_address` reads: those of its entries up to the first range, or of a faulty
+/// list those of the entries before the fault. Fails exactly where the budget has fewer.
+pub fn take_first(
     list: ListAt,
     bases: &Bases,
     sections: &Sections,
-    effort: &mut Effort,
+    budget: &mut Budget,
 ) -> Result<(), NoMemory>
-    ensures { effort.new.left ≤ effort.old.left }
+    requires { budget.old.taken ≤ budget.old.most }
+    ensures taken { OnOk result (budget.new ≡ with_taken budget.old (first_bytes_of sections.now.rnglists.now bases.now.rnglists sections.now.ranges.now sections.now.addr.now bases.now.addr list)) }
+    ensures within { OnOk result (budget.old.taken + first_bytes_of sections.now.rnglists.now bases.now.rnglists sections.now.ranges.now sections.now.addr.now bases.now.addr list ≤ budget.old.most) }
+    ensures past { OnErr result (budget.old.most < budget.old.taken + first_bytes_of sections.now.rnglists.now bases.now.rnglists sections.now.ranges.now sections.now.addr.now bases.now.addr list) }
+    ensures named { IfErr result (λ e. e ≡ Past budget.old.limit) }
 {
     let lists = Source {
         bytes: sections.rnglists,
@@ -152,19 +168,18 @@ pub fn spend_first(
         entry: DebugInfoOffset::new(0),
     };
     match list {
-        ListAt::Offset(place) => spend_entries(&lists, false, place, effort),
+        ListAt::Offset(place) => take_list(&lists, place, budget),
         ListAt::Index(index) => match place_of(sections.rnglists, bases.rnglists, index) {
-            Some(place) => spend_entries(&lists, false, place, effort),
-            None => Ok(()),
+            Some(place) => take_list(&lists, place, budget),
+            None => budget.take(0),
         },
-        ListAt::Pairs(place) => spend_entries(
+        ListAt::Pairs(place) => take_pairs(
             &Source {
                 bytes: sections.ranges,
                 ..lists
             },
-            true,
             place,
-            effort,
+            budget,
         ),
     }
 }

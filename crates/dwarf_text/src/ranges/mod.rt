@@ -7,5 +7,5 @@ pub mod laws;
 mod layout;
 mod lists;
 
-pub use first::{first_address, spend_first};
+pub use first::{first_address, take_first};
 pub use lists::ListAt;

@@ -10,7 +10,7 @@ loop-unit-init c = keep_none c.new-places.result (λ q k. has_signature q (head_
 pub loop-unit-preserved : goal.loop-unit-preserved
 loop-unit-preserved c =
     keep_more c.loop-unit.places c.keep_first.new.places (λ q k. has_signature q (head_at c.args.tree.now k)) c.loop-unit.unit (length c.args.tree.now.units) c.head-head.result.signature
-    c.loop-unit.invariant (omega arith) (λ q. signature_number q c.head-head.result.signature ∙ ap (has_signature q) c.head-head.ensures) c.in_ok-keep_first.ensures
+    c.loop-unit.invariant (omega arith) (λ q. signature_number q c.head-head.result.signature ∙ ap (has_signature q) c.head-head.ensures) c.in_ok-keep_first.ensures.kept
 
-pub returns : goal.returns
-returns c = hold_units c.loop-unit.places c.args.tree.now c.loop-unit.unit c.loop-unit.invariant (omega arith)
+pub returns-clause-units : goal.returns-clause-units
+returns-clause-units c = hold_units c.loop-unit.places c.args.tree.now c.loop-unit.unit c.loop-unit.invariant (omega arith)
