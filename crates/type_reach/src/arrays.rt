@@ -3,7 +3,6 @@ ghost use Rattle.std.specs.Prelude.{◌≡◌, ◌<◌, length, map, All, IfErr,
 ghost use Rattle.abi_base.specs.declared.fault.NoMemory.TheVariants.{Allocation};
 ghost use Rattle.type_reach.specs.Facts as spec;
 
-use crate::references::children_with;
 use crate::values::{counted_to, natural_of};
 use abi_base::NoMemory;
 use abi_base::dwarf::{DW_AT_count, DW_AT_upper_bound, DW_TAG_subrange_type};
@@ -45,7 +44,7 @@ pub(crate) fn array_count(alloc: Global, dwarf: &Dwarf, e: EntryNumber) -> Resul
     ensures count { IfOk result (λ count. count ≡ spec.array_count dwarf.now.tree e) }
     ensures named { IfErr result (λ e. e ≡ Allocation) }
 {
-    let subranges = children_with(alloc, dwarf, e, DW_TAG_subrange_type)?;
+    let subranges = dwarf.tagged(alloc, e, DW_TAG_subrange_type)?;
     if subranges.is_empty() {
         return Ok(0);
     }

@@ -26,7 +26,7 @@ pub use facts::{Facts, Span, VOID};
 pub use learning::{facts_at, facts_by_number, in_order, learn_all};
 pub use placement::{is_nameless, is_out_of_range, width_of};
 pub use reached_entries::ReachedEntries;
-pub use references::{body_of, children_with, members_among, type_of};
+pub use references::{body_of, members_among, type_of};
 pub use role::{Role, is_signed, role_of};
 pub use start::Start;
 pub use summaries::{Summary, summaries_of, summary_at, summary_by_number};

@@ -1,7 +1,6 @@
 // The types to which entries lead, and their parts.
-ghost use Rattle.std.specs.Prelude.{◌≡◌, ◌<◌, filter, length, All, IfErr, IfOk, IfSome};
+ghost use Rattle.std.specs.Prelude.{◌≡◌, ◌<◌, length, All, IfErr, IfOk, IfSome};
 ghost use Rattle.abi_base.specs.declared.fault.NoMemory.TheVariants.{Allocation};
-ghost use Rattle.dwarf_tree.specs.Trees.{children_of, is_tagged};
 ghost use Rattle.type_reach.specs.References as spec;
 ghost use Rattle.type_reach.specs.Views as views;
 
@@ -44,24 +43,6 @@ pub fn body_of(dwarf: &Dwarf, e: EntryNumber) -> EntryNumber
     }
 }
 
-/// The children of an entry with a tag, in order. Fails only where an allocation does.
-pub fn children_with(
-    alloc: Global,
-    dwarf: &Dwarf,
-    e: EntryNumber,
-    tag: u64,
-) -> Result<Vec<EntryNumber>, NoMemory>
-    requires { e < length dwarf.now.tree.entries }
-    ensures children { IfOk result (λ list. list.items ≡ filter (is_tagged dwarf.now.tree tag) (children_of dwarf.now.tree e)) }
-    ensures inside { IfOk result (λ list. All (λ child. child < length dwarf.now.tree.entries) list.items) }
-    ensures named { IfErr result (λ e. e ≡ Allocation) }
-{
-    match dwarf.tagged(alloc, e, tag) {
-        Ok(list) => Ok(list),
-        Err(_) => Err(NoMemory::Allocation),
-    }
-}
-
 /// The members of a structure or a union, even of a declaration, or the parameters of a function, in order.
 #[tactic(auto, unfolding(crate::specs::References::parts_of, crate::specs::References::tagged_children))]
 pub(crate) fn parts_of(
@@ -77,10 +58,8 @@ pub(crate) fn parts_of(
     ensures named { IfErr result (λ e. e ≡ Allocation) }
 {
     match role {
-        Role::Aggregate => children_with(alloc, dwarf, e, DW_TAG_member),
-        Role::Function => {
-            children_with(alloc, dwarf, body_of(dwarf, e), DW_TAG_formal_parameter)
-        },
+        Role::Aggregate => dwarf.tagged(alloc, e, DW_TAG_member),
+        Role::Function => dwarf.tagged(alloc, body_of(dwarf, e), DW_TAG_formal_parameter),
         _ => Ok(Vec::new(alloc)),
     }
 }
@@ -100,12 +79,7 @@ pub(crate) fn is_variadic(
 {
     match role {
         Role::Function => {
-            let further = children_with(
-                alloc,
-                dwarf,
-                body_of(dwarf, e),
-                DW_TAG_unspecified_parameters,
-            )?;
+            let further = dwarf.tagged(alloc, body_of(dwarf, e), DW_TAG_unspecified_parameters)?;
             Ok(!further.is_empty())
         }
         _ => Ok(false),
