@@ -13,24 +13,25 @@ names=("${@:2}")
 [ ${#names[@]} -gt 0 ] || names=(zlib libxml2)
 mkdir -p "$PWD/history"
 
-# sources NAME: gets the versions of a source package that apt has, the oldest first, and prints their folders. Versions that differ in
-# Debian's part alone count once.
+# sources NAME: gets the versions of a source package that apt has, and prints their folders, the newest first. Of versions that differ in
+# Debian's part alone it takes the newest that the archive still has.
 sources() {
-    local version folder
-    for version in $(apt-cache showsrc "$1" | sed -n "/^Package: $1\$/,/^\$/s/^Version: //p" | sort -u -V | awk '
-        {
-            upstream = $0; sub(/^[0-9]+:/, "", upstream); sub(/-[^-]*$/, "", upstream)
-            if (!(upstream in last)) order[++count] = upstream
-            last[upstream] = $0
-        }
-        END { for (i = 1; i <= count; i++) print last[order[i]] }'); do
-        folder=source-${version#*:}
-        if [ ! -d "$folder" ]; then
-            apt-get source --quiet --quiet --only-source --download-only "$1=$version" >log 2>&1 || { cat log >&2; exit 1; }
-            dpkg-source --no-check --extract "$1_${version#*:}.dsc" "$folder" >log 2>&1 || { cat log >&2; exit 1; }
-        fi
-        echo "$folder"
+    local version upstream taken=" "
+    for version in $(apt-cache showsrc "$1" | sed -n "/^Package: $1\$/,/^\$/s/^Version: //p" | sort -u -V -r); do
+        upstream=${version#*:} upstream=${upstream%-*}
+        [[ $taken != *" $upstream "* ]] || continue
+        got "$1" "$version" || { echo "bench: the archive lacks $1 $version" >&2; continue; }
+        taken+="$upstream "
+        echo "source-${version#*:}"
     done
+}
+
+# got NAME VERSION: gets the source of a version, and unpacks it, unless it is there. Names of files lack the epoch.
+got() {
+    local folder=source-${2#*:}
+    [ -d "$folder" ] && return
+    apt-get source --quiet --quiet --only-source --download-only "$1=$2" >log 2>&1 &&
+        dpkg-source --no-check --extract "$1_${2#*:}.dsc" "$folder" >log 2>&1
 }
 
 # built_zlib FOLDER FILE, built_libxml2 FOLDER FILE: builds the library of a source folder.
@@ -44,7 +45,8 @@ built_libxml2() {
         cd "$1"
         [ -x configure ] || autoreconf --force --install
         [ -e Makefile ] || ./configure --disable-static --without-python --without-lzma --without-zlib --without-icu CFLAGS='-g -O0 -w'
-        make libxml2.la
+        # Patches have made the files that autotools wrote look old.
+        make libxml2.la ACLOCAL=: AUTOCONF=: AUTOHEADER=: AUTOMAKE=:
         cp .libs/libxml2.so "$2"
     )
 }
@@ -63,12 +65,15 @@ edit() {
     5) sed -i '/added_by_an_edit/d' "$1/$5" ;;
     *) echo "${added//added_by_an_edit/added_by_edit_$2}" >>"$1/$5" ;;
     esac
+    # make need not know which objects a header is in.
+    [ "$2" -gt 4 ] || find "$1" -name '*.lo' -delete
 }
 
 # versions NAME: builds ten versions, and writes their names and files into the file `versions`.
 versions() {
     local folder number=0 last edits=0 all
-    mapfile -t all < <(sources "$1")
+    sources "$1" | tac >folders
+    mapfile -t all <folders
     [ ${#all[@]} -gt 0 ] || { echo "bench: apt has no source of $1" >&2; exit 1; }
     rm -rf edited
     : >versions

@@ -47,9 +47,10 @@ class Browser:
     def __init__(self, connection: WebSocketClientConnection) -> None:
         self._connection = connection
         self._numbers = itertools.count(1)
+        self._events: list[str] = []
 
     async def call(self, method: str, **parameters: object) -> dict[str, Any]:
-        """Calls a method and returns the answer; skips other messages of the browser."""
+        """Calls a method and returns the answer; keeps the events that come before it."""
         number = next(self._numbers)
         await self._connection.write_message(json.dumps({"id": number, "method": method, "params": parameters}))
         while True:
@@ -59,11 +60,16 @@ class Browser:
                     raise RuntimeError(f"{method}: {message['error']}")
                 found: dict[str, Any] = message["result"]
                 return found
+            self._events.append(message.get("method", ""))
 
     async def event(self, method: str) -> None:
-        """Waits for an event."""
-        while (await self._message()).get("method") != method:
-            pass
+        """Waits for an event, which may have come during a call since `forget`."""
+        while method not in self._events:
+            self._events.append((await self._message()).get("method", ""))
+
+    def forget(self) -> None:
+        """Forgets the events that came so far."""
+        self._events.clear()
 
     async def _message(self) -> dict[str, Any]:
         text = await self._connection.read_message()
@@ -87,6 +93,7 @@ class Browser:
 async def opened(browser: Browser, page: Path) -> tuple[float, float]:
     """Opens the page, and returns the seconds until it was loaded and until it was painted."""
     await browser.call("Page.enable")
+    browser.forget()
     start = time.monotonic()
     await browser.call("Page.navigate", url=page.as_uri())
     await browser.event("Page.loadEventFired")

@@ -178,7 +178,9 @@ async def found_in(place: Path) -> None:
         await browsing.opened(browser, place)
         assert await browser.value("[window.find('libmade598'), window.find('nonesuch')]") == [True, False]
         await browser.call("Emulation.setScriptExecutionDisabled", value=True)
-        await browsing.opened(browser, place)
+        browser.forget()
+        await browser.call("Page.navigate", url=place.as_uri())
+        await browser.event("Page.loadEventFired")
         shown = "[...document.querySelectorAll('main tbody tr')].filter(row => row.getClientRects().length).length"
         assert await browser.value(f"[document.body.className, {shown}]") == ["", 606]
 
