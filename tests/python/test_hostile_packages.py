@@ -87,6 +87,38 @@ def test_each_library_of_a_soname_is_judged(good: bytes, bad: bytes, tmp_path: P
     assert f"no {folder}/shapes-tcp.so: " in ended.out
 
 
+P = "usr/lib/private"
+NAMED = f"{P}/{SONAME}"
+
+
+@pytest.mark.parametrize("before, after, status", (
+    ((NAMED, f"{P}/two.so"), (NAMED, f"{P}/three.so"), 1), (("usr/lib/plugin.so", f"{P}/two.so"), ("usr/lib/plugin.so", f"{P}/three.so"), 1),
+    (("usr/lib/p", "private"), ("usr/lib/p", "other"), 1), (("a", "b"), (f"usr/lib64/{SONAME}", f"../../{P}/three.so"), 1),
+    (("a", "b"), ("usr/lib/glibc-hwcaps/x86-64-v3", "../other"), 1), (("a", "b"), (f"usr/lib64/{SONAME}", "../lib/debug/four.so"), 1),
+    (("a", "b"), ("usr/lib/x86_64-linux-gnu", "debug"), 1), ((NAMED, f"{P}/two.so"), (NAMED, "/opt/two.so"), 2),
+    ((NAMED, f"{P}/two.so"), ("a", "b"), 2), ((NAMED, f"{P}/two.so"), (NAMED, f"/{P}/two.so"), 0), (("a", "b"), ("a", "b"), 0)))
+def test_what_a_name_leads_to_is_compared(good: bytes, bad: bytes, tmp_path: Path, before: tuple[str, str], after: tuple[str, str],
+                                          status: int) -> None:
+    """The files are the same on both sides, and some of them break the others; a link leads to another one of them, and the loader or
+    `dlopen` follows it."""
+    files = [Member(f"usr/lib/{SONAME}.1", good), Member(f"{P}/two.so", good), Member(f"{P}/three.so", bad),
+             Member("usr/lib/other/two.so", bad), Member(f"usr/lib/other/{SONAME}", bad), Member("usr/lib/debug/four.so", bad),
+             Member(f"usr/lib/debug/{SONAME}", bad)]
+    linked = [link(name, f"/{target}" if target.startswith("usr/") else target) for name, target in (before, after)]
+    made = [hostile_deb(tmp_path / f"{side}.deb", [one, *files]) for side, one in zip(("old", "new"), linked)]
+    ended = packages(tmp_path, made[0], "--", made[1])
+    assert ended.status == status, ended
+
+
+@pytest.mark.parametrize("folder", ("usr/lib/haswell", "usr/lib64/tls/x86_64", "usr/local/lib", "usr/local/lib/x86_64-linux-gnu"))
+def test_folders_that_some_loaders_search(old: Path, good: bytes, bad: bytes, tmp_path: Path, folder: str) -> None:
+    """A second library of the soname that a loader may take in place of the first one."""
+    for name, contents, status in (("good", good, 0), ("bad", bad, 1)):
+        new = hostile_deb(tmp_path / f"{name}.deb", [Member(f"usr/lib/{SONAME}", good), Member(f"{folder}/{SONAME}", contents)])
+        ended = packages(tmp_path, old, "--", new)
+        assert ended.status == status and ended.out.splitlines()[-1].startswith("2 libraries: "), ended
+
+
 @pytest.mark.parametrize("folder", ("usr/lib/schöne", "usr/lib/a\\b", "usr/lib/a b"))
 @pytest.mark.parametrize("locale", ("C", "C.UTF-8"))
 def test_names_in_an_rpm_are_bytes(build: Build, tmp_path: Path, folder: str, locale: str) -> None:

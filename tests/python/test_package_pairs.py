@@ -10,15 +10,16 @@ import pytest
 from conftest import ROOT
 
 from abi_tools.found_libraries import PackagedLibrary, Unreadable
+from abi_tools.library_names import LibraryNames
 from abi_tools.package_judging import file_names
-from abi_tools.package_trees import Tree
+from abi_tools.package_trees import File, Link, Tree
 from abi_tools.pairing import Pair, pairs_of, with_unreadable
 from abi_tools.unpacking import Package
 
 _PAGE = ROOT / "docs" / "PACKAGES.md"
 _SONAME = "libx.so.1"
 _PACKAGE = Package(Path("package.deb"), Tree())
-_NAME = re.compile(r"(damaged )?`([^`]+)`")
+_NAME = re.compile(r"(damaged )?`([^`]+)`(?: → `([^`]+)`)?")
 
 
 def rows() -> Iterator[tuple[str, str, str]]:
@@ -30,16 +31,18 @@ def rows() -> Iterator[tuple[str, str, str]]:
         yield old, new, answer
 
 
-def side(cell: str) -> tuple[list[PackagedLibrary], list[Unreadable]]:
-    """The libraries of a cell, and the files that cannot be read."""
+def side(cell: str) -> tuple[LibraryNames, list[Unreadable]]:
+    """The libraries of a cell with the links to them, and the files that cannot be read."""
+    tree = Tree()
     libraries, unreadable = [], []
-    for damaged, short in _NAME.findall(cell):
+    for damaged, short, target in _NAME.findall(cell):
         name = short.replace("/H/", "/glibc-hwcaps/")
+        tree.entries[name] = Link(target) if target else File()
         if damaged:
             unreadable.append(Unreadable(name, _PACKAGE, "it is damaged"))
-        else:
+        elif not target:
             libraries.append(PackagedLibrary(name, Path(name), _SONAME, _PACKAGE))
-    return libraries, unreadable
+    return LibraryNames(libraries, [tree]), unreadable
 
 
 def said(pair: Pair, old: Sequence[PackagedLibrary], new: Sequence[PackagedLibrary]) -> str:
@@ -59,13 +62,24 @@ def said(pair: Pair, old: Sequence[PackagedLibrary], new: Sequence[PackagedLibra
 def test_each_row_of_the_page_is_what_is_compared(row: tuple[str, str, str]) -> None:
     (old, old_unreadable), (new, new_unreadable) = side(row[0]), side(row[1])
     found = with_unreadable(pairs_of(old, new), old_unreadable, new_unreadable)
-    assert sorted(said(pair, old, new) for pair in found) == sorted(re.split(r", (?=\d)", row[2])), found
+    assert sorted(said(pair, old.libraries, new.libraries) for pair in found) == sorted(re.split(r", (?=\d)", row[2])), found
     names = [pair.name for pair in found]
     assert len(set(names)) == len(names) == len(set(file_names(found)))
 
 
+def test_too_many_pairs_are_not_left_out() -> None:
+    """Each library of one soname in `usr/lib64` would be compared with each one in `usr/lib`."""
+    names = ["`usr/lib/libx.so.1`", *(f"`usr/lib/{number}/x.so`" for number in "abcdefghi")]
+    old = side(", ".join([*names, *(f"`usr/lib/tls{'/tls' * number}/libx.so.1` → `/usr/lib/{one}/x.so`"
+                                    for number, one in enumerate("abcdefghi"))]))[0]
+    new = side(", ".join([*names, *(f"`usr/lib64/tls{'/tls' * number}/libx.so.1` → `/usr/lib/{one}/x.so`"
+                                    for number, one in enumerate("abcdefghi"))]))[0]
+    found = pairs_of(old, new)
+    assert len(found) == 10 and all("more than 64 pairs" in pair.trouble for pair in found), found
+
+
 def test_the_table_has_rows() -> None:
-    assert len(list(rows())) >= 20
+    assert len(list(rows())) >= 34
 
 
 def test_names_on_this_machine_are_safe() -> None:

@@ -5,18 +5,19 @@ from __future__ import annotations
 
 from dataclasses import dataclass, field
 from pathlib import Path, PurePosixPath
-from typing import Optional
+from typing import Iterator, Optional
 
 from abi_tools.debug_files import DEBUG_FOLDER
 from abi_tools.elf_files import SHT_DYNSYM, SHT_NOBITS, ElfFile
 from abi_tools.faults import Fault
 from abi_tools.limits import LARGEST_FILE
 from abi_tools.loader_views import LoaderView, header_of, loader_view
-from abi_tools.package_trees import File
+from abi_tools.package_trees import File, Link, Tree
 from abi_tools.unpacking import Package
 
 _SHARED = ".so"
-_DEBUG = f"{str(DEBUG_FOLDER).lstrip('/')}/"
+# The folder of debug information, relative to the root.
+DEBUG = f"{str(DEBUG_FOLDER).lstrip('/')}/"
 
 
 @dataclass(frozen=True, eq=False)
@@ -75,15 +76,28 @@ class Contents:
 
 
 def contents_of(package: Package) -> Contents:
-    """Sorts the ELF files of a package. Files in the folder of debug information are none of libraries."""
+    """Sorts the ELF files of a package. Files in the folder of debug information are none of libraries, unless a link from outside leads
+    to them."""
     files = [(name, file) for name, file in package.tree.files() if file.is_elf]
     found = Contents(seen=len(files))
+    linked = tuple(_linked_debug(package.tree))
     for name, file in files:
-        if name.startswith(_DEBUG):
+        if name.startswith(DEBUG) and not f"{name}/".startswith(linked):
             found.others += 1
         else:
             _sort(found, package, name, file)
     return found
+
+
+def _linked_debug(tree: Tree) -> Iterator[str]:
+    """What links from outside lead to in the folder of debug information: names of files and folders, each with a slash behind."""
+    if not any(name.startswith(DEBUG) for name in tree.entries):
+        return
+    for name, node in tree.entries.items():
+        if isinstance(node, Link) and not name.startswith(DEBUG):
+            target = f"{tree.resolved(name) or ''}/"
+            if target.startswith(DEBUG):
+                yield target
 
 
 def _sort(found: Contents, package: Package, name: str, file: File) -> None:

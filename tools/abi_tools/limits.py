@@ -26,6 +26,7 @@ LARGEST_RULES = _MEGABYTE
 LARGEST_WINDOW = 128 * _MEGABYTE
 LARGEST_HEADER = 64 * _MEGABYTE
 MOST_MEMBERS = 500_000
+MOST_NAMES = 200_000
 DEEPEST = 128
 # Linux takes no longer name (PATH_MAX), and follows no more links (MAXSYMLINKS).
 LONGEST_NAME = 4096
@@ -40,6 +41,7 @@ LIMITS = (
     Limit(LARGEST_HEADER, "bytes", "the header of a .rpm"),
     Limit(LARGEST_RULES, "bytes", "a rule file in a package, inflated"),
     Limit(MOST_MEMBERS, "members", "the files, folders and links of a package"),
+    Limit(MOST_NAMES, "names", "the names that lead to libraries of all packages of a side, by way of links or not"),
     Limit(DEEPEST, "folders", "the depth of a name in a package"),
     Limit(LONGEST_NAME, "bytes", "a name, or the target of a link, in a package"),
     Limit(MOST_LINKS, "links", "the links that one name leads through"),

@@ -11,6 +11,7 @@ from typing import Iterator, Optional, Sequence
 from abi_tools.debuginfod import Debuginfod, ServedPlaces
 from abi_tools.faults import Fault
 from abi_tools.found_libraries import Contents, LeftOut, PackagedLibrary, Unreadable, contents_of
+from abi_tools.library_names import LibraryNames
 from abi_tools.package_debug import PackagePlaces
 from abi_tools.pairing import Pair, pairs_of, with_unreadable
 from abi_tools.shown import name_shown
@@ -52,6 +53,11 @@ class Side:
         return tuple(library for one in self.contents for library in one.libraries)
 
     @property
+    def names(self) -> LibraryNames:
+        """Its libraries, and the names that lead to them. Raises a fault if the names are too many."""
+        return LibraryNames(self.libraries, [package.tree for package in self.packages])
+
+    @property
     def unreadable(self) -> tuple[Unreadable, ...]:
         """The files that may be libraries and cannot be read."""
         return tuple(file for one in self.contents for file in one.unreadable)
@@ -85,7 +91,7 @@ def libraries(package: Package) -> Iterator[PackagedLibrary]:
 
 def pairs(old: Side, new: Side) -> list[Pair]:
     """The libraries of both sides, paired and sorted by name, with a row for each file that may be a library and cannot be read."""
-    return with_unreadable(pairs_of(old.libraries, new.libraries), old.unreadable, new.unreadable)
+    return with_unreadable(pairs_of(old.names, new.names), old.unreadable, new.unreadable)
 
 
 def package_rules(pair: Pair, sides: Sequence[Side], folder: Path) -> tuple[Optional[Path], str]:

@@ -9,14 +9,9 @@ from itertools import product
 from typing import Callable, Hashable, Iterator, Optional, Sequence
 
 from abi_tools.found_libraries import PackagedLibrary, Unreadable
+from abi_tools.library_names import LibraryNames, Place
 from abi_tools.shown import name_shown
 
-# The folders of `/` that are links to the folders of the same names in `/usr` on a merged system.
-_MERGED = ("lib/", "lib32/", "lib64/", "libx32/", "bin/", "sbin/")
-# The folders that the loader searches for 64-bit libraries of x86-64 without being told, on Debian or Fedora.
-_SEARCHED = ("usr/lib", "usr/lib64", "usr/lib/x86_64-linux-gnu")
-_LEVELS = ("", "x86-64-v2", "x86-64-v3", "x86-64-v4")
-_LEVEL = re.compile(r"(.*)/glibc-hwcaps/(x86-64-v[234])")
 # A package that has more libraries of one soname in such folders is no usual one.
 _MOST_PAIRS = 64
 _DIGITS = re.compile(r"[0-9]+")
@@ -37,30 +32,6 @@ class Pair:
     soname: str = ""
 
 
-@dataclass(frozen=True)
-class _Place:
-    """Where a library is installed: the folder without the level of processors, as on a merged system, and the level."""
-
-    folder: str
-    level: str
-
-    @property
-    def is_searched(self) -> bool:
-        """Whether the loader searches the folder without being told."""
-        return self.folder in _SEARCHED
-
-
-def _merged(folder: str) -> str:
-    """A folder as on a system on which `/lib` leads to `/usr/lib`."""
-    return f"usr/{folder}" if f"{folder}/".startswith(_MERGED) else folder
-
-
-def _place(library: PackagedLibrary) -> _Place:
-    folder = _merged(library.folder)
-    found = _LEVEL.fullmatch(folder)
-    return _Place(folder, "") if found is None else _Place(found[1], found[2])
-
-
 def _stem(name: str) -> str:
     """A file name without the numbers of its version."""
     return _DIGITS.sub("", name)
@@ -68,21 +39,27 @@ def _stem(name: str) -> str:
 
 @dataclass
 class _Sides:
-    """The libraries of one soname, and how they are paired so far. A library is left as long as it is in no pair."""
+    """The libraries of one soname, by which names they are found, how they are paired so far, and why nothing can be told of any of
+    them. A library is left as long as it is in no pair."""
 
     old: list[PackagedLibrary]
     new: list[PackagedLibrary]
+    old_names: LibraryNames
+    new_names: LibraryNames
     pairs: list[Pair] = field(default_factory=list)
+    trouble: str = ""
 
     def pair(self, old: PackagedLibrary, new: PackagedLibrary) -> None:
-        """Pairs two libraries."""
-        self.pairs.append(Pair("", old, new, old.trouble or new.trouble, _folders(old, new), _doubt(old, new)))
+        """Pairs two libraries, unless they are a pair."""
+        if not any(pair.old is old and pair.new is new for pair in self.pairs):
+            self.pairs.append(Pair("", old, new, old.trouble or new.trouble, _folders(old, new)))
 
     def left(self) -> tuple[list[PackagedLibrary], list[PackagedLibrary]]:
         """The libraries of both sides that are in no pair. An old one also counts as left if each new one is for better processors."""
-        old = {id(pair.old) for pair in self.pairs if pair.old and pair.new and _level(pair.new) <= _level(pair.old)}
-        new = {id(pair.new) for pair in self.pairs}
-        return [one for one in self.old if id(one) not in old], [one for one in self.new if id(one) not in new]
+        old = {pair.old for pair in self.pairs
+               if pair.old and pair.new and _level(self.new_names, pair.new) <= _level(self.old_names, pair.old)}
+        new = {pair.new for pair in self.pairs}
+        return [one for one in self.old if one not in old], [one for one in self.new if one not in new]
 
     def pair_by(self, key: Callable[[PackagedLibrary], Hashable]) -> None:
         """Pairs those that are left and are the only ones of their sides with a key."""
@@ -90,6 +67,56 @@ class _Sides:
         for one in olds:
             if len(olds[one]) == len(news.get(one, ())) == 1:
                 self.pair(olds[one][0], news[one][0])
+
+    def open_places(self) -> tuple[dict[PackagedLibrary, list[Place]], dict[PackagedLibrary, list[Place]]]:
+        """The places of the libraries that are left, and of the names by which the loader opens others and that lead to no library of
+        the soname on the other side."""
+        old, new = self.left()
+        return _open_places(self.old, old, self.old_names, self.new_names), _open_places(self.new, new, self.new_names, self.old_names)
+
+    def pair_levels(self) -> None:
+        """Pairs the libraries that the loader takes on a processor of each level, where one side has no library of this level."""
+        places = {place for side in self.open_places() for found in side.values() for place in found if place.level}
+        for place in sorted(places, key=lambda one: (one.folder, one.level)):
+            old, new = _taken(self.old_names, self.old, place), _taken(self.new_names, self.new, place)
+            if len(old) == 1 and len(new) == 1:
+                self.pair(old[0], new[0])
+
+    def pair_searched(self) -> None:
+        """Pairs each library in such a place in a folder that a loader searches with each one of the other side in such folders."""
+        open_old, open_new = ([one for one, places in side.items() if any(map(_is_found, places))] for side in self.open_places())
+        old, new = _found(self.old_names, self.old), _found(self.new_names, self.new)
+        if len(open_old) * len(new) + len(old) * len(open_new) > _MOST_PAIRS:
+            self.trouble = f"more than {_MOST_PAIRS} pairs of libraries have this soname in folders that the loader searches"
+            return
+        for one, other in dict.fromkeys((*product(open_old, new), *product(old, open_new))):
+            self.pair(one, other)
+
+    def all_pairs(self) -> Iterator[Pair]:
+        """The pairs, with what makes each of them no yes, and a pair of its own for each library that is left."""
+        partners: dict[Optional[PackagedLibrary], list[PackagedLibrary]] = {}
+        for pair in self.pairs:
+            if pair.new is not None:
+                partners.setdefault(pair.old, []).append(pair.new)
+        doubts = {old: self._doubt(old, news) for old, news in partners.items() if old is not None}
+        paired = (replace(pair, doubt=doubts[pair.old] if pair.old is not None else "") for pair in self.pairs)
+        yield from (replace(pair, trouble=self.trouble or pair.trouble) for pair in (*paired, *_rest(self)))
+
+    def _doubt(self, old: PackagedLibrary, news: Sequence[PackagedLibrary]) -> str:
+        """Why a program that found the old library may find none of those that it is compared with; empty if it does."""
+        searched = [one for one in self.old_names.places(old) if one.may_be_searched]
+        places = {place for new in news for place in self.new_names.places(new)}
+        if searched and not any(one.is_searched or one in searched for one in places):
+            return (f"it moved from {name_shown(searched[0].folder)}, which the loader searches, to {name_shown(news[0].folder)}, which it "
+                    "searches only if it is told to")
+        folders = {Place.of(new.folder) for new in news}
+        for name in self.old_names.loaded_names(old):
+            if _leads(self.new_names, name, old.soname):
+                continue
+            place = Place.of(name.rpartition("/")[0])
+            if self.new_names.has(name) or not place.may_be_searched and place in folders:
+                return f"in the new packages {name_shown(name)}, by which programs find it, leads to no library of its soname"
+        return ""
 
 
 def _by_key(side: Sequence[PackagedLibrary], key: Callable[[PackagedLibrary], Hashable]) -> dict[Hashable, list[PackagedLibrary]]:
@@ -99,83 +126,91 @@ def _by_key(side: Sequence[PackagedLibrary], key: Callable[[PackagedLibrary], Ha
     return found
 
 
-def _level(library: PackagedLibrary) -> int:
-    """The number of the level of processors."""
-    return _LEVELS.index(_place(library).level)
+def _level(names: LibraryNames, library: PackagedLibrary) -> int:
+    """The least level of processors at which a loader finds a library."""
+    places = list(names.places(library))
+    return min(one.level for one in [place for place in places if place.may_be_searched] or places[:1])
 
 
-def _doubt(old: PackagedLibrary, new: PackagedLibrary) -> str:
-    """Why a program that found the old library may not find the new one; empty if it does."""
-    if not _place(old).is_searched or _place(new).is_searched:
-        return ""
-    return (f"it moved from {name_shown(old.folder)}, which the loader searches, to {name_shown(new.folder)}, which it searches only if "
-            "it is told to")
+def _is_found(place: Place) -> bool:
+    """Whether some loader finds a library in a place on each processor without being told where."""
+    return place.may_be_searched and not place.level
 
 
-def _folders(old: PackagedLibrary, new: PackagedLibrary) -> str:
-    """Both folders, if they differ in more than the level, or in more than that `/lib` became `/usr/lib`."""
-    if _place(old).folder == _place(new).folder:
-        return ""
-    return f"old in {name_shown(old.folder)}, new in {name_shown(new.folder)}"
+def _found(names: LibraryNames, side: Sequence[PackagedLibrary]) -> list[PackagedLibrary]:
+    """The libraries that some loader finds on each processor without being told where."""
+    return [one for one in side if any(map(_is_found, names.places(one)))]
 
 
-def pairs_of(old: Sequence[PackagedLibrary], new: Sequence[PackagedLibrary]) -> list[Pair]:
-    """The pairs of the libraries of both sides, sorted by name."""
-    sonames = sorted({library.soname for library in (*old, *new)})
-    found = []
-    for soname in sonames:
-        sides = _Sides([one for one in old if one.soname == soname], [one for one in new if one.soname == soname])
-        _pair(sides)
-        found += [replace(pair, soname=soname) for pair in (*sides.pairs, *_rest(sides))]
-    return sorted(_named(found), key=lambda pair: pair.name)
+def _open_places(side: Sequence[PackagedLibrary], left: Sequence[PackagedLibrary], names: LibraryNames,
+                 others: LibraryNames) -> dict[PackagedLibrary, list[Place]]:
+    """The places of libraries that nothing of the other side answers to yet."""
+    found: dict[PackagedLibrary, list[Place]] = {}
+    for one in side:
+        if one in left:
+            found[one] = list(names.places(one))
+        else:
+            found[one] = [Place.of(name.rpartition("/")[0]) for name in names.loaded_names(one) if not _leads(others, name, one.soname)]
+    return found
 
 
-def _pair(sides: _Sides) -> None:
-    """Pairs the libraries of one soname: by folder and file name, by folder and the file name without numbers, and by folder; then what
-    the loader finds in folders that it searches; then what moved, by file name and, if one library is left on each side, by soname."""
-    sides.pair_by(lambda one: (_place(one), one.file_name))
-    sides.pair_by(lambda one: (_place(one), _stem(one.file_name)))
-    sides.pair_by(_place)
-    _pair_levels(sides)
-    _pair_searched(sides)
-    sides.pair_by(lambda one: one.file_name)
-    sides.pair_by(lambda one: _stem(one.file_name))
-    sides.pair_by(lambda one: one.soname)
+def _leads(names: LibraryNames, name: str, soname: str) -> bool:
+    """Whether a name leads to a library of a soname."""
+    library = names.library(name)
+    return library is not None and library.soname == soname
 
 
-def _pair_levels(sides: _Sides) -> None:
-    """Pairs the libraries that the loader takes on a processor of each level, where one side has no library of this level."""
-    left = sides.left()
-    places = {_place(one) for side in left for one in side if _place(one).level}
-    for place in sorted(places, key=lambda one: (one.folder, one.level)):
-        old, new = _taken(sides.old, place), _taken(sides.new, place)
-        if len(old) == 1 and len(new) == 1:
-            sides.pair(old[0], new[0])
-
-
-def _taken(side: Sequence[PackagedLibrary], place: _Place) -> list[PackagedLibrary]:
+def _taken(names: LibraryNames, side: Sequence[PackagedLibrary], place: Place) -> list[PackagedLibrary]:
     """The libraries of the highest level in a folder that is not above the level of a place."""
-    for level in reversed(_LEVELS[:_LEVELS.index(place.level) + 1]):
-        found = [one for one in side if _place(one) == _Place(place.folder, level)]
+    for level in range(place.level, -1, -1):
+        found = [one for one in side if Place(place.folder, level) in names.places(one)]
         if found:
             return found
     return []
 
 
-def _pair_searched(sides: _Sides) -> None:
-    """Pairs each library that is left in a folder that the loader searches with each one of the other side in such folders."""
-    left = [[one for one in side if _is_found(one)] for side in sides.left()]
-    old, new = ([one for one in side if _is_found(one)] for side in (sides.old, sides.new))
-    if len(left[0]) * len(new) + len(old) * len(left[1]) > _MOST_PAIRS:
-        return
-    for one, other in dict.fromkeys((*product(left[0], new), *product(old, left[1]))):
-        sides.pair(one, other)
+def _folders(old: PackagedLibrary, new: PackagedLibrary) -> str:
+    """Both folders, if they differ in more than the level, or in more than that `/lib` became `/usr/lib`."""
+    if Place.of(old.folder).folder == Place.of(new.folder).folder:
+        return ""
+    return f"old in {name_shown(old.folder)}, new in {name_shown(new.folder)}"
 
 
-def _is_found(library: PackagedLibrary) -> bool:
-    """Whether the loader finds a library on each processor without being told where."""
-    place = _place(library)
-    return place.is_searched and not place.level
+def pairs_of(old: LibraryNames, new: LibraryNames) -> list[Pair]:
+    """The pairs of the libraries of both sides, sorted by name."""
+    by_soname = {library.soname: _Sides([], [], old, new) for library in (*old.libraries, *new.libraries)}
+    for one in old.libraries:
+        by_soname[one.soname].old.append(one)
+    for one in new.libraries:
+        by_soname[one.soname].new.append(one)
+    for one, other in dict.fromkeys(_of_one_name(old, new)):
+        by_soname[one.soname].pair(one, other)
+    found = []
+    for soname, sides in sorted(by_soname.items()):
+        _pair(sides)
+        found += [replace(pair, soname=soname) for pair in sides.all_pairs()]
+    return sorted(_named(found), key=lambda pair: pair.name)
+
+
+def _of_one_name(old: LibraryNames, new: LibraryNames) -> Iterator[tuple[PackagedLibrary, PackagedLibrary]]:
+    """The libraries of one soname that one name leads to on both sides. Programs that use this name get the new one for the old one."""
+    for name in sorted({*old.names, *new.names}):
+        one, other = old.library(name), new.library(name)
+        if one is not None and other is not None and one.soname == other.soname:
+            yield one, other
+
+
+def _pair(sides: _Sides) -> None:
+    """Pairs the libraries of one soname that no name leads to on both sides: by folder and file name without numbers, and by folder; then
+    what the loader finds in folders that it searches; then what moved, by file name and, if one library is left on each side, by
+    soname."""
+    sides.pair_by(lambda one: (Place.of(one.folder), _stem(one.file_name)))
+    sides.pair_by(lambda one: Place.of(one.folder))
+    sides.pair_levels()
+    sides.pair_searched()
+    sides.pair_by(lambda one: one.file_name)
+    sides.pair_by(lambda one: _stem(one.file_name))
+    sides.pair_by(lambda one: one.soname)
 
 
 def _rest(sides: _Sides) -> Iterator[Pair]:
@@ -221,7 +256,7 @@ def _folder_and_soname(pair: Pair) -> str:
 
 
 def _both_names(pair: Pair) -> str:
-    return " -> ".join(one.name for one in (pair.old, pair.new) if one is not None)
+    return "->".join(one.name for one in (pair.old, pair.new) if one is not None)
 
 
 def with_unreadable(pairs: Sequence[Pair], old: Sequence[Unreadable], new: Sequence[Unreadable]) -> list[Pair]:
