@@ -15,11 +15,14 @@ from fuzz_packages.corpus import LIBRARY, Corpus, Member, control, cpio, deb, rp
 
 _USUAL = (LIBRARY, f"./{LIBRARY}", f"/{LIBRARY}", "usr/lib/libfuzz.so", "usr/lib/a/libfuzz.so.1", "usr/lib/a", "usr/lib64",
           "usr/lib64/libfuzz.so.1", "lib/libfuzz.so.1", "lib", "usr/lib/x86_64-linux-gnu/libfuzz.so.1",
-          "usr/lib/glibc-hwcaps/x86-64-v3/libfuzz.so.1", "usr/share/doc/p/abi.rules", "usr/share/doc/p", "usr/bin/p", "a", "b")
+          "usr/lib/glibc-hwcaps/x86-64-v3/libfuzz.so.1", "usr/lib/x86_64-linux-gnu", "usr/lib/glibc-hwcaps/x86-64-v3",
+          "usr/lib/debug/libfuzz.so.1", "usr/lib/haswell/libfuzz.so.1", "usr/share/doc/p/abi.rules", "usr/share/doc/p", "usr/bin/p",
+          "a", "b")
 _NAMES = (f"usr//lib/./{LIBRARY[8:]}", "usr/lib", "usr", "../escaped", "usr/../../escaped", "a", "b", "", ".",
           "usr/lib/\udcff\n\x1b[2J.so", "d/" * 200 + "x", "n" * 300, "n" * 5000)
 _TARGETS = (LIBRARY, "libfuzz.so.1", "usr/lib/a", "/usr/lib", "../lib64", "{canary}", "/../../{canary}", "{canary}/libfuzz.so.1", "a", "b", "",
-            "/dev/zero", "/etc/passwd", "../" * 50 + "etc/passwd", "t" * 5000, "lib64", "usr/lib/libfuzz.so")
+            "debug", "../a", "debug/libfuzz.so.1", "/usr/lib/a/libfuzz.so.1", "/dev/zero", "/etc/passwd", "../" * 50 + "etc/passwd",
+            "t" * 5000, "lib64", "usr/lib/libfuzz.so")
 _KINDS = (tarfile.REGTYPE, tarfile.REGTYPE, tarfile.DIRTYPE, tarfile.SYMTYPE, tarfile.SYMTYPE, tarfile.LNKTYPE, tarfile.FIFOTYPE,
           tarfile.CHRTYPE, b"x", b"g", b"S", b"L", b"K", b"V", b"7", b"Z")
 _WAYS: dict[str, Callable[[bytes], bytes]] = {
@@ -42,7 +45,8 @@ class Changer:
         """A changed package that mostly has the library, and its suffix."""
         members = self._members(library)
         if self._random.random() < 0.3:
-            return ".rpm", self._bytes_changed(rpm(self._corpus.rpm_head, self._bytes_changed(cpio(members), 0.3)), 0.15)
+            listed = members if self._random.random() < 0.85 else self._members(library)
+            return ".rpm", self._bytes_changed(rpm(listed, self._bytes_changed(cpio(members), 0.3)), 0.15)
         archive = tar(members)
         if self._random.random() < 0.3:
             archive = self._headers_changed(archive)

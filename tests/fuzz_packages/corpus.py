@@ -4,37 +4,30 @@ from __future__ import annotations
 
 import gzip
 import io
+import struct
 import subprocess
 import tarfile
 from dataclasses import dataclass
 from pathlib import Path
-from typing import Sequence
+from typing import Iterator, Sequence, Union
 
 LIBRARY = "usr/lib/libfuzz.so.1"
 _SOURCE = "int fuzz({} a) {{ return (int) a; }}\n"
 _CONTROL = b"Package: p\nVersion: 1\nArchitecture: amd64\nMaintainer: a <a@example.org>\nDescription: a package\n"
-_SPEC = """\
-Name: p
-Version: 1
-Release: 1
-Summary: a package
-License: MIT
-%description
-%install
-mkdir -p %{{buildroot}}/usr/lib
-cp {library} %{{buildroot}}/{place}
-%files
-/usr/lib
-"""
+# The types of values in a header of rpm, and tags: a package's name and version, how its archive is packed, and its files by size, mode,
+# target of a link, folder and name.
+_INT16, _INT32, _STRING, _STRINGS = 3, 4, 6, 8
+_TEXTS = {1000: "p", 1001: "1", 1002: "1", 1021: "linux", 1022: "x86_64", 1124: "cpio", 1125: "gzip", 1126: "1"}
+_SIZES, _FILE_MODES, _TARGETS, _FOLDER_NUMBERS, _FILE_NAMES, _FOLDERS = 1028, 1030, 1036, 1116, 1117, 1118
+Value = Union[str, Sequence[str], Sequence[int]]
 
 
 @dataclass(frozen=True)
 class Corpus:
-    """A library, one that may not replace it, and a .rpm of the library up to its payload, which gzip compresses."""
+    """A library, and one that may not replace it."""
 
     good: bytes
     bad: bytes
-    rpm_head: bytes
 
 
 @dataclass(frozen=True)
@@ -48,16 +41,8 @@ class Member:
 
 
 def made_corpus(folder: Path) -> Corpus:
-    """Makes the libraries with gcc, and the .rpm with rpmbuild."""
-    libraries = [_library(folder, name, kind) for name, kind in (("good", "int"), ("bad", "long"))]
-    spec = folder / "p.spec"
-    spec.write_text(_SPEC.format(library=libraries[0], place=LIBRARY))
-    definitions = {"_topdir": folder / "rpmbuild", "debug_package": "%{nil}", "__os_install_post": "%{nil}", "_build_id_links": "none",
-                   "_rpmfilename": "p.rpm", "_binary_payload": "w1.gzdio"}
-    options = [word for name, value in definitions.items() for word in ("--define", f"{name} {value}")]
-    subprocess.run(["rpmbuild", "-bb", "--quiet", *options, str(spec)], check=True, capture_output=True)
-    package = (folder / "rpmbuild/RPMS/p.rpm").read_bytes()
-    return Corpus(libraries[0].read_bytes(), libraries[1].read_bytes(), package[:package.rindex(b"\x1f\x8b\x08")])
+    """Makes the libraries with gcc."""
+    return Corpus(*(_library(folder, name, kind).read_bytes() for name, kind in (("good", "int"), ("bad", "long"))))
 
 
 def _library(folder: Path, name: str, kind: str) -> Path:
@@ -113,6 +98,37 @@ def control() -> tuple[str, bytes]:
     return "control.tar", tar([Member("./control", contents=_CONTROL)])
 
 
-def rpm(head: bytes, archive: bytes) -> bytes:
-    """A .rpm with an archive."""
-    return head + gzip.compress(archive, 1)
+def rpm(listed: Sequence[Member], archive: bytes) -> bytes:
+    """A .rpm with an archive, and a header that lists members."""
+    lead = b"\xed\xab\xee\xdb\x03\0" + struct.pack(">HH66sHH16x", 0, 1, b"p-1-1", 1, 5)
+    signature = _header([(_SIZES, _INT32, [0])])
+    head = lead + signature + bytes(-len(signature) % 8)
+    return head + _header([*((tag, _STRING, text) for tag, text in _TEXTS.items()), *_files(listed)]) + gzip.compress(archive, 1)
+
+
+def _files(listed: Sequence[Member]) -> Iterator[tuple[int, int, Value]]:
+    """The values that list files."""
+    members = {f"/{one.name.removeprefix('./').lstrip('/')}": one for one in listed}
+    folders = [f"{name.rpartition('/')[0]}/" for name in members]
+    unique = sorted(set(folders))
+    targets = [one.target if one.kind == tarfile.SYMTYPE else "" for one in members.values()]
+    yield _SIZES, _INT32, [len(target) or len(one.contents) for target, one in zip(targets, members.values())]
+    yield _FILE_MODES, _INT16, [_MODES.get(one.kind, 0o100644) for one in members.values()]
+    yield _TARGETS, _STRINGS, targets
+    yield _FOLDER_NUMBERS, _INT32, [unique.index(folder) for folder in folders]
+    yield _FILE_NAMES, _STRINGS, [name.rpartition("/")[2] for name in members]
+    yield _FOLDERS, _STRINGS, unique
+
+
+def _header(values: Sequence[tuple[int, int, Value]]) -> bytes:
+    """A header of rpm."""
+    index, data = b"", b""
+    for tag, kind, value in values:
+        data += bytes(-len(data) % {_INT16: 2, _INT32: 4}.get(kind, 1))
+        index += struct.pack(">IIII", tag, kind, len(data), 1 if kind == _STRING else len(value))
+        if kind in (_INT16, _INT32):
+            data += struct.pack(f">{len(value)}{'H' if kind == _INT16 else 'I'}", *value)
+        else:
+            texts = [value] if isinstance(value, str) else value
+            data += b"".join(str(text).encode("utf-8", "surrogateescape") + b"\0" for text in texts)
+    return b"\x8e\xad\xe8\x01" + bytes(4) + struct.pack(">II", len(index) // 16, len(data)) + index + data

@@ -27,6 +27,10 @@ from fuzz_packages.corpus import LIBRARY, Corpus
 MEGABYTES = 300
 _MOST = (MEGABYTES + 150) << 10
 _SECONDS = 60
+# Names by which loaders and programs open the library.
+LOADED = tuple(f"{folder}/{LIBRARY.rpartition('/')[2]}" for folder in (
+    "usr/lib", "usr/lib64", "lib", "usr/lib/x86_64-linux-gnu", "usr/lib/glibc-hwcaps/x86-64-v3", "usr/lib/a", "a", "b"))
+_MOST_STEPS = 1000
 
 
 @dataclass(frozen=True)
@@ -87,14 +91,13 @@ class Trials:
         return self._wrong_yes(old, new) if status == 0 else None
 
     def _wrong_yes(self, old: Path, new: Path) -> Optional[Wrong]:
-        """A yes is wrong if the library in its place in the new package may not replace the one in the old package."""
-        before, after = (self._library(package, side) for package, side in ((old, "old"), (new, "new")))
-        if before is not None and after == self._corpus.bad:
-            return Wrong("yes, and the new library breaks")
-        return None
+        """A yes is wrong if a name leads to the library in the old package, and to the one that may not replace it in the new one."""
+        before, after = (self._libraries(package, side) for package, side in ((old, "old"), (new, "new")))
+        wrong = [name for name, library in before.items() if (library, after.get(name)) == (self._corpus.good, self._corpus.bad)]
+        return Wrong(f"yes, and {wrong[0]!r} breaks") if wrong else None
 
-    def _library(self, package: Path, side: str) -> Optional[bytes]:
-        """The library that dpkg-deb or rpm2cpio unpacks; None if there is none, or if they refuse the package."""
+    def _libraries(self, package: Path, side: str) -> dict[str, bytes]:
+        """What names lead to, of what dpkg-deb or rpm2cpio unpacks; nothing if they refuse the package."""
         folder = self._folder / "unpacked" / side
         shutil.rmtree(folder, ignore_errors=True)
         folder.mkdir(parents=True)
@@ -103,8 +106,29 @@ class Trials:
         command = (["dpkg-deb", "-x", str(package), str(folder)] if is_deb
                    else ["sh", "-c", f"rpm2cpio '{package}' | bsdtar -xf - -C '{folder}'"])
         subprocess.run(command, capture_output=True, check=False, stdin=subprocess.DEVNULL)
-        place = Path(os.path.realpath(folder / LIBRARY))
-        return place.read_bytes() if place.is_relative_to(folder.resolve()) and place.is_file() else None
+        names = {os.path.relpath(os.path.join(at, name), folder) for at, _, files in os.walk(folder) for name in files}
+        found = {name: leads_to(folder, name) for name in (*names, *LOADED)}
+        return {name: place.read_bytes() for name, place in found.items() if place is not None and place.is_file()}
+
+
+def leads_to(root: Path, name: str) -> Optional[Path]:
+    """What a name leads to in a folder, as if it were the whole system; None if it leads through too many links."""
+    at, left = root, [*reversed(name.split("/"))]
+    for _ in range(_MOST_STEPS):
+        if not left:
+            return at
+        part = left.pop()
+        if part in ("", "."):
+            continue
+        if part == "..":
+            at = at if at == root else at.parent
+        elif (at / part).is_symlink():
+            target = os.readlink(at / part)
+            at = root if target.startswith("/") else at
+            left += reversed(target.split("/"))
+        else:
+            at = at / part
+    return None
 
 
 _WRITES = ("os.mkdir", "os.rename", "os.link", "os.symlink", "os.remove", "os.rmdir", "os.chmod", "os.truncate", "os.chown")

@@ -19,6 +19,8 @@ import pytest
 from conftest import FIRST, SECOND, TOOLS, done, needs, run, script
 from package_support import (CHANGED, LIBRARIES, Build, Member, deb, hostile_deb, installed, link, packages, packed, rpm, tar)
 
+from fuzz_packages import corpus as fuzzed
+
 from abi_tools.archives import Archive
 from abi_tools.elf_files import ElfFile
 
@@ -126,6 +128,20 @@ def test_names_in_an_rpm_are_bytes(build: Build, tmp_path: Path, folder: str, lo
             for name, text in (("old", FIRST), ("new", CHANGED))]
     ended = run("env", f"LC_ALL={locale}", TOOLS / "abi-packages", "--certificates", tmp_path / "kept", made[0], "--", made[1])
     assert ended.status == 1 and ended.out.startswith(f"no {SONAME}: "), ended
+
+
+def test_an_rpm_installs_what_its_header_lists(old: Path, good: bytes, bad: bytes, tmp_path: Path) -> None:
+    """rpm takes the kinds of files and the targets of links from the header, and refuses a file that it does not list."""
+    library, other = fuzzed.Member(f"./usr/lib/{SONAME}", contents=good), fuzzed.Member("./usr/lib/b.so", contents=bad)
+    leading = fuzzed.Member(f"./usr/lib/{SONAME}", tarfile.SYMTYPE, target="b.so")
+    elsewhere = fuzzed.Member(f"./usr/lib/{SONAME}", tarfile.SYMTYPE, target="c.so")
+    for number, (listed, members, words) in enumerate((
+            ([library], [library], None), ([], [library], "does not list"), ([leading, other], [library, other], "says otherwise of"),
+            ([leading, other], [elsewhere, other], "says otherwise of"), ([library], [library, other], "does not list"))):
+        new = tmp_path / f"{number}.rpm"
+        new.write_bytes(fuzzed.rpm(listed, fuzzed.cpio(members)))
+        ended = packages(tmp_path, old, "--", new)
+        assert ended.status == (0 if words is None else 2) and (words or "") in ended.errors, ended
 
 
 @pytest.mark.parametrize("way", ("none", "xz"))
@@ -378,6 +394,21 @@ def test_a_library_whose_sections_are_those_of_a_debug_file_is_seen(good: bytes,
     for old, new in (sides, sides[::-1]):
         ended = packages(tmp_path, old, "--", new)
         assert ended.status == 2 and f"cannot tell {SONAME}: " in ended.out and "gone" not in ended.out, ended
+
+
+@pytest.mark.parametrize("section, place, step", ((".dynsym", 24, 24), (".dynsym", 24, -24), (".dynsym", 32, -24), (".dynstr", 24, 1)))
+def test_a_library_whose_sections_hide_symbols_is_no_yes(old: Path, good: bytes, tmp_path: Path, section: str, place: int, step: int) -> None:
+    """The headers of its sections say that the tables begin elsewhere, or end before the symbols that the loader finds."""
+    (tmp_path / "good").write_bytes(good)
+    number = next(one for one in ElfFile(tmp_path / "good").sections if one.name == section).number
+    at = int.from_bytes(good[40:48], "little") + 64 * number + place
+    hidden = bytearray(good)
+    hidden[at:at + 8] = (int.from_bytes(good[at:at + 8], "little") + step).to_bytes(8, "little")
+    new = hostile_deb(tmp_path / "new.deb", [Member(f"usr/lib/{SONAME}", bytes(hidden))])
+    for sides in ((old, new), (new, old)):
+        ended = packages(tmp_path, sides[0], "--", sides[1])
+        assert ended.status == 2 and ended.out.startswith(f"cannot tell {SONAME}: "), ended
+        assert "different tables of symbols" in ended.out or section == ".dynstr", ended
 
 
 def test_a_run_that_is_ended_ends_its_steps(old: Path, tmp_path: Path, monkeypatch: pytest.MonkeyPatch) -> None:

@@ -10,7 +10,7 @@ from typing import Any
 
 import pytest
 from conftest import FIRST, TOOLS, done, run
-from package_support import CHANGED, Build, Member, deb, hostile_deb
+from package_support import CHANGED, Build, Member, deb, hostile_deb, link
 
 from abi_tools.found_libraries import contents_of
 from abi_tools.package_sides import Side
@@ -89,3 +89,7 @@ def test_a_file_of_two_packages_is_refused(build: Build, tmp_path: Path) -> None
             for name in ("one", "two")]
     with pytest.raises(Exception, match="another package brings, too"):
         Side.unpacked(made, tmp_path / "both")
+    other = hostile_deb(tmp_path / "other.deb", [link(f"usr/lib/{SONAME}", "other.so")])
+    for number, files in enumerate(((made[0], other), (other, made[0]))):
+        with pytest.raises(Exception, match="another package brings, too"):
+            Side.unpacked(files, tmp_path / str(number))

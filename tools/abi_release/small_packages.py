@@ -4,17 +4,14 @@ is left to the general reader, which also says what is wrong with it."""
 from __future__ import annotations
 
 import io
-import lzma
 import tarfile
-import zlib
 from dataclasses import dataclass
 from pathlib import Path
-from typing import Optional
+from typing import Iterator, Optional
 
-from debian.arfile import ArError
-from debian.debfile import DebFile
-
+from abi_tools import deb_files
 from abi_tools.archives import Archive
+from abi_tools.faults import Fault
 from abi_tools.found_libraries import contents_of
 from abi_tools.package_sides import Side
 from abi_tools.unpacking import Package, placed
@@ -23,13 +20,9 @@ from abi_tools.unpacking import Package, placed
 _LARGEST_PACKED = 1 << 20
 _LARGEST = 16 << 20
 _LARGEST_CONTROL = 1 << 20
-# How much memory inflating .xz may take: the dictionary of `xz -9` has 64 MiB.
-_MOST_FOR_XZ = 80 << 20
-# zlib's wbits for the gzip format.
-_GZIP = 31
 _CONTROL = "control"
 # What the readers raise if a package is damaged.
-_DAMAGED = (ArError, tarfile.TarError, lzma.LZMAError, zlib.error, OSError, EOFError, ValueError, KeyError, StopIteration)
+_DAMAGED = (Fault, tarfile.TarError, OSError, EOFError, ValueError, KeyError)
 
 
 @dataclass(frozen=True)
@@ -46,11 +39,11 @@ class SmallPackage:
         if file.suffix not in (".deb", ".ddeb") or not file.is_file() or file.stat().st_size > _LARGEST_PACKED:
             return None
         try:
-            with DebFile(fileobj=io.BytesIO(file.read_bytes())) as package:
-                control = _plain(package, "control.tar", _LARGEST_CONTROL)
-                plain = _plain(package, "data.tar", _LARGEST)
-                if plain is None or not _is_small(tarfile.open(fileobj=io.BytesIO(plain), mode="r:")):
-                    return None
+            with file.open("rb") as stream:
+                control = _plain(deb_files.control_of(stream, file), _LARGEST_CONTROL)
+                plain = _plain(deb_files.data_of(stream, file), _LARGEST)
+            if plain is None or not _is_small(tarfile.open(fileobj=io.BytesIO(plain), mode="r:")):
+                return None
             text = None if control is None else _text(tarfile.open(fileobj=io.BytesIO(control), mode="r:"))
         except _DAMAGED:
             return None
@@ -75,42 +68,15 @@ def _is_small(archive: tarfile.TarFile) -> bool:
     return sum(_LARGEST + 1 if member.islnk() else member.size for member in archive.getmembers()) <= _LARGEST
 
 
-def _plain(package: DebFile, name: str, most: int) -> Optional[bytes]:
-    """The bytes of an archive of a package, inflated; None if it takes more memory than it may. Of several archives dpkg takes the
-    first."""
-    member = next(one for one in package.getmembers() if one.name.startswith(name))
-    return _inflated(member.read(), member.name.removeprefix(name), most)
-
-
-def _inflated(packed: bytes, suffix: str, most: int) -> Optional[bytes]:
-    """The inflated bytes; None if there are more than `most`, if other bytes follow them, or if the compression is unknown."""
-    if suffix == "":
-        return packed if len(packed) <= most else None
-    if suffix == ".gz":
-        gzip = zlib.decompressobj(_GZIP)
-        plain = gzip.decompress(packed, most)
-        return plain if gzip.eof and not gzip.unused_data else None
-    if suffix == ".xz":
-        xz = lzma.LZMADecompressor(lzma.FORMAT_XZ, memlimit=_MOST_FOR_XZ)
-        plain = xz.decompress(packed, most)
-        return plain if xz.eof and not xz.unused_data else None
-    if suffix == ".zst":
-        return _inflated_zstandard(packed, most)
-    return None
-
-
-def _inflated_zstandard(packed: bytes, most: int) -> Optional[bytes]:
-    """The same for zstd, if its library is installed."""
-    try:
-        import zstandard  # pylint: disable=import-outside-toplevel
-    except ImportError:
-        return None
-    try:
-        with zstandard.ZstdDecompressor(max_window_size=_LARGEST).stream_reader(io.BytesIO(packed), read_across_frames=True) as stream:
-            plain: bytes = stream.read(most + 1)
-    except zstandard.ZstdError:
-        return None
-    return plain if len(plain) <= most else None
+def _plain(pieces: Iterator[bytes], most: int) -> Optional[bytes]:
+    """The bytes of an archive; None if there are more than `most`."""
+    parts, count = [], 0
+    for piece in pieces:
+        count += len(piece)
+        if count > most:
+            return None
+        parts.append(piece)
+    return b"".join(parts)
 
 
 def _text(archive: tarfile.TarFile) -> Optional[bytes]:

@@ -56,7 +56,7 @@ class Archive:
     def __init__(self, pieces: Iterator[bytes], form: str, file: object) -> None:
         self._pieces = pieces
         self._form = form
-        self._file = file
+        self.file = file
         self._failed: Optional[BaseException] = None
         self._piece = b""
         self._buffer = ctypes.create_string_buffer(_PIECE)
@@ -114,7 +114,7 @@ class Archive:
     def _refuse_pax(self, archive: int, entry: int) -> None:
         if _format(archive) in _FORMAT_PAX or _sparse_parts(entry) > 0:
             name = _name_in_utf_8(entry) or ffi.entry_pathname(entry)
-            raise Fault(f"{self._file} has a header of pax or a sparse file, which dpkg refuses: {_text(name)}")
+            raise Fault(f"{self.file} has a header of pax or a sparse file, which dpkg refuses: {_text(name)}")
 
     def _checked(self, function: object, *arguments: object) -> int:
         """What a function of libarchive returns. Raises a fault for an error and for a warning."""
@@ -125,9 +125,9 @@ class Archive:
                 raise self._failed from error
             if error.errno == errno.ENOMEM:
                 raise MemoryError from error
-            raise Fault(f"{self._file} is damaged: {error.msg or 'it is no archive'}") from error
+            raise Fault(f"{self.file} is damaged: {error.msg or 'it is no archive'}") from error
         if result < 0:
-            raise Fault(f"{self._file} is damaged: {_text(ffi.error_string(arguments[0]))}")
+            raise Fault(f"{self.file} is damaged: {_text(ffi.error_string(arguments[0]))}")
         return result
 
     def _member(self, archive: int, entry: int) -> Member:
@@ -136,11 +136,12 @@ class Archive:
         if hard is not None:
             kind = Kind.HARD_LINK
         else:
-            kind = _KINDS.get(stat.S_IFMT(ffi.entry_filetype(entry)), Kind.OTHER)
+            kind = KINDS.get(stat.S_IFMT(ffi.entry_filetype(entry)), Kind.OTHER)
         return Member(_text(ffi.entry_pathname(entry)), kind, ffi.entry_size(entry), _text(soft if hard is None else hard))
 
 
-_KINDS = {stat.S_IFREG: Kind.FILE, stat.S_IFDIR: Kind.FOLDER, stat.S_IFLNK: Kind.LINK}
+# The kinds of members by the bits of their modes.
+KINDS = {stat.S_IFREG: Kind.FILE, stat.S_IFDIR: Kind.FOLDER, stat.S_IFLNK: Kind.LINK}
 
 
 def _text(name: Optional[bytes]) -> str:

@@ -32,8 +32,9 @@ _SHT_DYNAMIC = 6
 _SHT_NOTE = 7
 SHT_NOBITS = 8
 SHT_DYNSYM = 11
+SHT_GNU_VERDEF = 0x6FFFFFFD
 _SHT_GNU_VERNEED = 0x6FFFFFFE
-_SHT_GNU_VERSYM = 0x6FFFFFFF
+SHT_GNU_VERSYM = 0x6FFFFFFF
 _SHN_UNDEF = 0
 _STB_GLOBAL = 1
 # The bits of a version index without the hidden bit; vn_version, vn_cnt, vn_file, vn_aux and vn_next; vna_hash, vna_flags,
@@ -46,6 +47,7 @@ _NEEDED_VERSION = struct.Struct("<IHHII")
 _DYNAMIC_ENTRY = struct.Struct("<qQ")
 _DT_NULL, _DT_NEEDED, _DT_SONAME = 0, 1, 14
 _SYMBOL = struct.Struct("<IBBHQQ")
+SYMBOL_SIZE = _SYMBOL.size
 # namesz, descsz and type of a note; its parts are aligned to four bytes (gABI, "Note Section").
 _NOTE = struct.Struct("<III")
 _GNU = b"GNU\0"
@@ -383,7 +385,7 @@ class ElfFile:
         """The names of the undefined dynamic symbols, each with the file and version that it needs, and its binding."""
         try:
             texts, symbols = self._symbols()
-            indexes = [index & _VERSION_INDEX for section in self._of_kind(_SHT_GNU_VERSYM)
+            indexes = [index & _VERSION_INDEX for section in self._of_kind(SHT_GNU_VERSYM)
                        for (index,) in _INDEX.iter_unpack(self.raw(section))]
             versions = dict(self._needed_versions())
             for number, symbol in enumerate(symbols):

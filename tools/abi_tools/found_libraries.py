@@ -8,10 +8,10 @@ from pathlib import Path, PurePosixPath
 from typing import Iterator, Optional
 
 from abi_tools.debug_files import DEBUG_FOLDER
-from abi_tools.elf_files import SHT_DYNSYM, SHT_NOBITS, ElfFile
+from abi_tools.elf_files import SHT_DYNSYM, SHT_GNU_VERDEF, SHT_GNU_VERSYM, SHT_NOBITS, SYMBOL_SIZE, ElfFile, Section
 from abi_tools.faults import Fault
 from abi_tools.limits import LARGEST_FILE
-from abi_tools.loader_views import LoaderView, header_of, loader_view
+from abi_tools.loader_views import LoaderView, Tables, header_of, loader_view
 from abi_tools.package_trees import File, Link, Tree
 from abi_tools.unpacking import Package
 
@@ -133,6 +133,8 @@ def _sort_dynamic(found: Contents, package: Package, name: str, path: Path) -> N
         troubles.append("its sections and its segments have different sonames" if soname is not None or view is not None
                         else "its segments are damaged")
         soname = soname or sections.soname
+    if view is not None and sections is not None and view.has_symbols and sections.has_symbols and not sections.agrees(view):
+        troubles.append("its sections and its segments have different tables of symbols")
     has_symbols = view is not None and view.has_symbols or sections is not None and sections.has_symbols
     file_name = PurePosixPath(name).name
     if has_symbols and (soname or _SHARED in file_name):
@@ -146,20 +148,34 @@ def _sort_dynamic(found: Contents, package: Package, name: str, path: Path) -> N
 
 @dataclass(frozen=True)
 class _Sections:
-    """What the sections of a file say: its soname, whether it has dynamic symbols, and whether it is a debug file, which has the headers
-    of the library's sections without their bytes."""
+    """What the sections of a file say: its soname, whether it has dynamic symbols, whether it is a debug file, which has the headers of
+    the library's sections without their bytes, where the tables of symbols begin, and how many symbols there are."""
 
     soname: Optional[str]
     has_symbols: bool
     is_debug: bool
+    tables: Tables
+    count: int
+
+    def agrees(self, view: LoaderView) -> bool:
+        """Whether the loader finds its symbols in the same tables."""
+        return self.tables == view.tables and self.count >= view.hashed
 
 
 def _sections_of(path: Path) -> tuple[Optional[_Sections], list[str]]:
     """What the sections say, and why they say nothing."""
     try:
         file = ElfFile(path, "it")
-        has_symbols = any(section.kind == SHT_DYNSYM for section in file.sections)
+        symbols, versions, definitions = (_first(file, kind) for kind in (SHT_DYNSYM, SHT_GNU_VERSYM, SHT_GNU_VERDEF))
+        names = file.sections[symbols.link] if symbols is not None and symbols.link < len(file.sections) else None
         empty = any(section.name == ".dynsym" and section.kind == SHT_NOBITS for section in file.sections)
-        return _Sections(file.soname, has_symbols, empty and not has_symbols), []
+        tables = tuple(None if one is None else one.offset for one in (symbols, names, versions, definitions))
+        count = 0 if symbols is None else symbols.size // SYMBOL_SIZE
+        return _Sections(file.soname, symbols is not None, empty and symbols is None, tables, count), []
     except Fault as fault:
         return None, [str(fault)]
+
+
+def _first(file: ElfFile, kind: int) -> Optional[Section]:
+    """The first section of a type, which is the one that `abi` reads."""
+    return next((section for section in file.sections if section.kind == kind), None)

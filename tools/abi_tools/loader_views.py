@@ -6,9 +6,9 @@ import os
 import struct
 from dataclasses import dataclass
 from pathlib import Path
-from typing import Optional
+from typing import Iterator, Optional
 
-from abi_tools.elf_files import EM_X86_64, ET_DYN
+from abi_tools.elf_files import EM_X86_64, ET_DYN, SYMBOL_SIZE
 from abi_tools.faults import Fault
 
 # e_ident (gABI, "ELF Identification"): the magic bytes, the class of 64 bits and the order of little endian.
@@ -23,6 +23,11 @@ _PT_LOAD, _PT_DYNAMIC, _PT_INTERP = 1, 2, 3
 _PN_XNUM = 0xFFFF
 _DYNAMIC_ENTRY = struct.Struct("<qQ")
 _DT_NULL, _DT_STRTAB, _DT_SYMTAB, _DT_STRSZ, _DT_SONAME = 0, 5, 6, 10, 14
+_DT_GNU_HASH, _DT_VERSYM, _DT_VERDEF = 0x6FFFFEF5, 0x6FFFFFF0, 0x6FFFFFFC
+# The tables that exports rest on: symbols, their names, their versions, and the definitions of these.
+_TABLES = (_DT_SYMTAB, _DT_STRTAB, _DT_VERSYM, _DT_VERDEF)
+# The header of a GNU hash table: the numbers of buckets, of the first symbol in it, and of the words of the filter, of eight bytes each.
+_HASH = struct.Struct("<III4x")
 _MOST_ENTRIES = 1 << 16
 _LONGEST_SONAME = 4096
 
@@ -35,14 +40,20 @@ class Header:
     is_dynamic: bool
 
 
+# Where tables begin in a file: symbols, their names, their versions, and the definitions of these; None for a table that is not there.
+Tables = tuple[Optional[int], ...]
+
+
 @dataclass(frozen=True)
 class LoaderView:
-    """What the loader sees: the soname, if there is one, whether there are dynamic symbols, and whether the file asks for a program
-    loader, as programs do."""
+    """What the loader sees: the soname, if there is one, whether there are dynamic symbols, whether the file asks for a program loader,
+    as programs do, where the tables of symbols begin, and how many symbols the hash table leads to."""
 
     soname: Optional[str]
     has_symbols: bool
     is_program: bool
+    tables: Tables = ()
+    hashed: int = 0
 
 
 def header_of(path: Path) -> Optional[Header]:
@@ -60,6 +71,11 @@ def loader_view(path: Path) -> LoaderView:
     """What the loader sees of a shared object for x86-64. Raises a fault if its segments are damaged."""
     with path.open("rb", buffering=0) as stream:
         return _Reader(stream.fileno()).view()
+
+
+def _numbers(data: bytes) -> Iterator[int]:
+    """The numbers of four bytes each."""
+    return (number for (number,) in struct.iter_unpack("<I", data))
 
 
 class _Reader:
@@ -81,7 +97,25 @@ class _Reader:
         dynamic = next((one for one in segments if one[0] == _PT_DYNAMIC), None)
         table = {} if dynamic is None else self._dynamic(dynamic[2], dynamic[5])
         is_program = any(one[0] == _PT_INTERP for one in segments)
-        return LoaderView(self._soname(table), _DT_SYMTAB in table, is_program)
+        tables = tuple(self._place(table[tag]) if tag in table else None for tag in _TABLES)
+        return LoaderView(self._soname(table), _DT_SYMTAB in table, is_program, tables, self._hashed(table))
+
+    def _hashed(self, table: dict[int, int]) -> int:
+        """How many symbols there are at least, by the GNU hash table: the last bucket's symbols end with an odd hash."""
+        if _DT_GNU_HASH not in table:
+            return 0
+        at = self._place(table[_DT_GNU_HASH])
+        buckets, first, words = _HASH.unpack(self._bytes(at, _HASH.size))
+        at += _HASH.size + 8 * words
+        last = max(_numbers(self._bytes(at, 4 * buckets)), default=0)
+        if last < first:
+            return 0
+        at += 4 * (buckets + last - first)
+        while not next(_numbers(self._bytes(at, 4))) & 1:
+            last, at = last + 1, at + 4
+            if last > self._size // SYMBOL_SIZE:
+                raise Fault("its hash table is damaged")
+        return last + 1
 
     def _dynamic(self, at: int, size: int) -> dict[int, int]:
         """The entries of the dynamic section: of each tag the last value, as the loader of glibc takes it."""
@@ -110,7 +144,7 @@ class _Reader:
         for start, size, offset in self._loaded:
             if start <= address < start + size:
                 return address - start + offset
-        raise Fault("its strings lie outside of its segments")
+        raise Fault("a table of its dynamic section lies outside of its segments")
 
     def _bytes(self, at: int, size: int) -> bytes:
         if size < 0 or at + size > self._size:

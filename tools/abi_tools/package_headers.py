@@ -28,7 +28,7 @@ def _names(package: Path) -> Iterator[str]:
         if magic == deb_files.MAGIC:
             archive = Archive(deb_files.data_of(stream, package), "tar", package)
         elif magic.startswith(rpm_files.MAGIC):
-            archive = Archive(rpm_files.payload_of(stream, package), "cpio", package)
+            archive = rpm_files.Payload(stream, package)
         else:
             raise Fault(f"{package} is neither a .deb nor a .rpm")
         for number, member in enumerate(archive.members()):

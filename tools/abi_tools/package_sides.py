@@ -13,6 +13,7 @@ from abi_tools.faults import Fault
 from abi_tools.found_libraries import Contents, LeftOut, PackagedLibrary, Unreadable, contents_of
 from abi_tools.library_names import LibraryNames
 from abi_tools.package_debug import PackagePlaces
+from abi_tools.package_trees import Entry
 from abi_tools.pairing import Pair, pairs_of, with_unreadable
 from abi_tools.shown import name_shown
 from abi_tools.unpacking import Package, unpack
@@ -74,14 +75,17 @@ class Side:
 
 
 def _refuse_second(packages: Sequence[Package]) -> None:
-    """Raises a fault if two packages bring an ELF file of the same name."""
-    seen: set[str] = set()
+    """Raises a fault if two packages bring a file of the same name, and one of these is an ELF file."""
+    elf_files: set[str] = set()
+    others: set[str] = set()
     for package in packages:
-        names = {name for name, file in package.tree.files() if file.is_elf}
-        twice = sorted(seen & names)
+        own = {name for name, file in package.tree.files() if file.is_elf}
+        rest = {name for name, node in package.tree.entries.items() if node is not Entry.FOLDER} - own
+        twice = sorted(elf_files & own | elf_files & rest | others & own)
         if twice:
             raise Fault(f"{package.file} brings a file that another package brings, too: {name_shown(twice[0])}")
-        seen |= names
+        elf_files |= own
+        others |= rest
 
 
 def libraries(package: Package) -> Iterator[PackagedLibrary]:

@@ -83,7 +83,7 @@ def unpack(file: Path, folder: Path) -> Package:
         if magic == deb_files.MAGIC:
             archive = Archive(deb_files.data_of(stream, file), "tar", file)
         elif magic.startswith(rpm_files.MAGIC):
-            archive = Archive(rpm_files.payload_of(stream, file), "cpio", file)
+            archive = rpm_files.Payload(stream, file)
         else:
             raise Fault(f"{file} is neither a .deb nor a .rpm")
         return Package(file, placed(archive, folder, file))
