@@ -187,6 +187,40 @@ def test_members_that_dpkg_refuses_are_refused(old: Path, good: bytes, tmp_path:
     assert packages(tmp_path, old, "--", fine).status == 0
 
 
+def headed(member: Member, magic: bytes, prefix: bytes = b"") -> bytes:
+    """A member of tar whose header has these magic bytes and this prefix."""
+    block = bytearray(tar([member])[:512 + -(-len(member.contents) // 512) * 512])
+    block[257:257 + len(magic)], block[345:345 + len(prefix)] = magic, prefix
+    # tarfile calls a folder without a name `/`.
+    block[0:1] = block[0:1] if member.name else b"\0"
+    block[148:156] = b" " * 8
+    block[148:156] = b"%06o\0 " % sum(block[:512])
+    return bytes(block)
+
+
+def test_headers_that_dpkg_reads_in_another_way_are_refused(old: Path, good: bytes, bad: bytes, tmp_path: Path) -> None:
+    """Each hides the library that breaks from one of several readers of tar. What all of them read in one way is judged."""
+    name, end = f"usr/lib/{SONAME}", bytes(1024)
+    first = headed(Member(name, good), b"ustar  \0")
+    hard = headed(Member("usr/lib/empty"), b"ustar  \0") + headed(
+        Member("usr/lib/hard", bytes(headed(Member(name, bad), bytes(8))), "usr/lib/empty", tarfile.REGTYPE), b"ustar\00000")
+    linked = bytearray(hard)
+    linked[512 + 156:512 + 157] = tarfile.LNKTYPE
+    linked[512 + 157:512 + 170] = b"usr/lib/empty"
+    linked[512 + 148:512 + 156] = b" " * 8
+    linked[512 + 148:512 + 156] = b"%06o\0 " % sum(linked[512:1024])
+    for number, (archive, status) in enumerate((
+            (first + headed(Member(name, bad), b"ustar 00", b"other"), 2), (first + headed(Member(name, bad), b"ustarX00", b"other"), 2),
+            (headed(Member(f"{name}/", good), b"ustar\00000"), 2), (first + bytes(linked), 2),
+            (headed(Member("", kind=tarfile.DIRTYPE), b"ustar  \0") + first, 2), (first, 0),
+            (headed(Member(name, good), b"ustar\00000"), 0), (headed(Member(SONAME, good), b"ustar\00000", b"usr/lib"), 0),
+            (headed(Member(name, good), bytes(8)), 0))):
+        new = packed(tmp_path / f"{number}.deb", ("data.tar", archive + end))
+        ended = packages(tmp_path, old, "--", new)
+        assert ended.status == status, (number, ended)
+        assert status == 0 or len(ended.errors.splitlines()) == 1 and ("in another way" in ended.errors or number in (2, 3)), (number, ended)
+
+
 def test_a_damaged_header_ends_no_archive_early(good: bytes, bad: bytes, tmp_path: Path) -> None:
     """The library after it would be neither seen in the old package nor missed in the new one."""
     archive = bytearray(tar([Member("usr/share/first", b"x" * 512), Member(f"usr/lib/{SONAME}", good)]))

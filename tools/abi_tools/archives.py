@@ -13,6 +13,7 @@ from libarchive import ffi
 from libarchive.exception import ArchiveError
 
 from abi_tools.faults import Fault
+from abi_tools.shown import name_shown
 
 # libarchive's Python binding would print warnings of its own; each of them is a fault here.
 logging.getLogger("libarchive").addHandler(logging.NullHandler())
@@ -25,6 +26,17 @@ _format = ffi.libarchive.archive_format
 _format.argtypes = [ctypes.c_void_p]
 _sparse_parts = ffi.libarchive.archive_entry_sparse_reset
 _sparse_parts.argtypes = [ctypes.c_void_p]
+_header_position = ffi.libarchive.archive_read_header_position
+_header_position.argtypes = [ctypes.c_void_p]
+_header_position.restype = ctypes.c_int64
+# A block of tar, the fields of a header (the size, the type, and the magic bytes with the version), and the magic bytes that dpkg, tar
+# and libarchive read in one way: POSIX, GNU, and version 7. For others they differ on whether a name has a prefix.
+_BLOCK = 512
+_SIZE, _TYPE, _MAGIC = slice(124, 136), slice(156, 157), slice(257, 265)
+_MAGICS = (b"ustar\00000", b"ustar  \0", bytes(8))
+_LONG_NAMES = (b"L", b"K")
+# How much of what was read last is kept: a header with long names.
+_WINDOW = 1 << 16
 _name_in_utf_8 = ffi.libarchive.archive_entry_pathname_utf8
 _name_in_utf_8.argtypes = [ctypes.c_void_p]
 _name_in_utf_8.restype = ctypes.c_char_p
@@ -59,6 +71,8 @@ class Archive:
         self.file = file
         self._failed: Optional[BaseException] = None
         self._piece = b""
+        self._window = b""
+        self._read = 0
         self._buffer = ctypes.create_string_buffer(_PIECE)
         self._archive: Optional[int] = None
 
@@ -99,6 +113,9 @@ class Archive:
         except BaseException as error:  # pylint: disable=broad-except
             self._failed = error
             return -1
+        if self._form == "tar":
+            self._window = self._window[-_WINDOW:] + self._piece
+            self._read += len(self._piece)
         ctypes.cast(place, ctypes.POINTER(ctypes.c_char_p))[0] = self._piece
         return len(self._piece)
 
@@ -116,6 +133,18 @@ class Archive:
             name = _name_in_utf_8(entry) or ffi.entry_pathname(entry)
             raise Fault(f"{self.file} has a header of pax or a sparse file, which dpkg refuses: {_text(name)}")
 
+    def _refuse_odd_headers(self, archive: int) -> None:
+        """Raises a fault if a header of tar is one that dpkg and libarchive read in different ways."""
+        at = _header_position(archive) - (self._read - len(self._window))
+        kind = _LONG_NAMES[0]
+        while kind in _LONG_NAMES:
+            header = self._window[at:at + _BLOCK] if at >= 0 else b""
+            digits = header[_SIZE].strip(b" \0")
+            if header[_MAGIC] not in _MAGICS or not digits.isdigit() and header[_TYPE] in _LONG_NAMES:
+                raise Fault(f"{self.file} has a header of tar that dpkg would read in another way")
+            kind = header[_TYPE]
+            at += _BLOCK + (-(-int(digits, 8) // _BLOCK) * _BLOCK if kind in _LONG_NAMES else 0)
+
     def _checked(self, function: object, *arguments: object) -> int:
         """What a function of libarchive returns. Raises a fault for an error and for a warning."""
         try:
@@ -132,12 +161,20 @@ class Archive:
 
     def _member(self, archive: int, entry: int) -> Member:
         self._refuse_pax(archive, entry)
+        if self._form == "tar":
+            self._refuse_odd_headers(archive)
         hard, soft = ffi.entry_hardlink(entry), ffi.entry_symlink(entry)
         if hard is not None:
             kind = Kind.HARD_LINK
         else:
             kind = KINDS.get(stat.S_IFMT(ffi.entry_filetype(entry)), Kind.OTHER)
-        return Member(_text(ffi.entry_pathname(entry)), kind, ffi.entry_size(entry), _text(soft if hard is None else hard))
+        member = Member(_text(ffi.entry_pathname(entry)), kind, ffi.entry_size(entry), _text(soft if hard is None else hard))
+        # dpkg ends at a member without a name, takes a file whose name ends in a slash as a folder, and reads what follows a hard link
+        # as a header.
+        is_odd = not member.name or kind is Kind.FILE and member.name.endswith("/") or kind is Kind.HARD_LINK and member.size > 0
+        if self._form == "tar" and is_odd:
+            raise Fault(f"{self.file} has a member that dpkg would read in another way: {name_shown(member.name)}")
+        return member
 
 
 # The kinds of members by the bits of their modes.
