@@ -254,7 +254,8 @@ def test_gitlab_ci_fails_in_three_ways(project: Path, tmp_path: Path) -> None:
 
 @pytest.fixture
 def archive(project: Path, tmp_path: Path) -> Path:
-    """The archive of an installation, as make-packages makes it. The tools are no longer on the PATH."""
+    """The archive of an installation, as make-packages makes it, and beside it `bare.tar.xz`, which lacks `abi`. The tools are no longer on
+    the PATH."""
     top = tmp_path / "abi-9"
     (top / "lib/abi").mkdir(parents=True)
     shutil.copytree(TOOLS, top / "lib/abi/tools", ignore=shutil.ignore_patterns("__pycache__", "make-*"))
@@ -266,6 +267,7 @@ def archive(project: Path, tmp_path: Path) -> Path:
     shutil.copytree(ROOT / "share/abi", top / "share/abi")
     made = tmp_path / "abi-9-x86_64.tar.xz"
     done("tar", "-cJf", made, "-C", tmp_path, "abi-9")
+    done("tar", "-cJf", tmp_path / "bare.tar.xz", "-C", tmp_path, "--exclude=abi-9/bin/abi", "abi-9")
     return made
 
 
@@ -274,9 +276,10 @@ def digest(path: Path) -> str:
     return hashlib.sha256(path.read_bytes()).hexdigest()
 
 
-def component_holds(project: Path, judge: Callable[..., Ended]) -> None:
-    """Checks a job that installs the archive: its statuses, and what it keeps."""
+def component_holds(project: Path, archive: Path, judge: Callable[..., Ended]) -> None:
+    """Checks a job that installs the archive: its statuses, also with an archive that lacks `abi`, and what it keeps."""
     result = project / "abi-result"
+    bare = archive.with_name("bare.tar.xz")
     done("make", "-s", "libstream.so.1", folder=project)
     ended = judge()
     assert ended.status == 0 and YES in ended.out, ended
@@ -291,6 +294,7 @@ def component_holds(project: Path, judge: Callable[..., Ended]) -> None:
     assert judge(old="none.abi").status == 2 and "### abi: cannot tell" in (result / "comment.md").read_text()
     assert judge(types="ninety").status == 64 and "### abi: no answer" in (result / "comment.md").read_text()
     assert judge(sha256="0" * 64).status == 2
+    assert judge(archive=f"file://{bare}", sha256=digest(bare)).status == 2 and "### abi: yes" not in (result / "comment.md").read_text()
     hurt = "x; touch hurt; `touch hurt` $(touch hurt)"
     assert judge(old=hurt).status == 2 and not (project / "hurt").exists()
 
@@ -323,7 +327,7 @@ def test_the_action_of_github(project: Path, archive: Path, tmp_path: Path, monk
                 path = ":".join([*outputs["GITHUB_PATH"].read_text().split(), clean])
         return ended
 
-    component_holds(project, judge)
+    component_holds(project, archive, judge)
     kept = action["runs"]["steps"][-1]
     assert kept["if"] == "always()" and kept["with"]["path"] == "abi-result"
     judge()
@@ -355,7 +359,7 @@ def test_the_component_of_gitlab(project: Path, archive: Path, tmp_path: Path) -
         variables = [f"{name}={put(one)}" for name, one in job["variables"].items()]
         return run("env", *variables, f"PATH={clean}", "bash", "-e", "-o", "pipefail", "-c", script, folder=project)
 
-    component_holds(project, judge)
+    component_holds(project, archive, judge)
     assert judge(build="make none").status != 0
 
 
