@@ -59,7 +59,6 @@ class _Header:
             return []
         return [_decoded(one) for one in self.values[offset:].split(b"\0", count)[:count]]
 
-
     def numbers(self, tag: int) -> list[int]:
         """The numbers of a tag; empty if it has none, or if they do not lie in the header."""
         kind, offset, count = self.entries.get(tag, (0, 0, 0))
