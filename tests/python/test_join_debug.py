@@ -14,6 +14,8 @@ from typing import Any, Callable
 
 import pytest
 from abi_tools import output_file
+from abi_tools.dwarf_tables import padded_number
+from abi_tools.supplementary import DebugSections, leads_out
 from conftest import (FIRST, SECOND, TOOLS, build_id, done, exports, refused, run, script, section_bytes, sections, shared, split,
                       system_place, tool)
 
@@ -307,6 +309,31 @@ def test_a_supplementary_file_beside_a_debug_file_that_is_found_by_its_name(two:
     common.rename(supplementary)
     assert tool("join-debug", "--root", root, library, joined).status == 0
     assert exports(joined) == exports(whole[0])
+
+
+def test_forms_that_lead_out_are_found_in_any_encoding() -> None:
+    """Abbreviations of one unit, with numbers in LEB128 that have zeros behind them (DWARF 5, 7.6): the test knows which forms it wrote."""
+    chosen = random.Random(62)
+
+    def number(value: int) -> bytes:
+        size = max(1, (value.bit_length() + 6) // 7)
+        return padded_number(value, chosen.choice((size, size, min(size + chosen.randrange(9), 10))))
+
+    seen = set()
+    for _ in range(2000):
+        leads, table = False, b""
+        for code in range(1, chosen.randrange(2, 5)):
+            table += number(code) + number(chosen.randrange(1, 300)) + bytes([chosen.randrange(2)])
+            for form in chosen.choices((0x01, 0x0b, 0x0e, 0x13, 0x20, 0x21, 0x21, 0x25), k=chosen.randrange(6)):
+                form = chosen.choice((0x1c, 0x1d, 0x24, 0x1f20, 0x1f21)) if chosen.random() < 0.05 else form
+                leads |= form in (0x1c, 0x1d, 0x24, 0x1f20, 0x1f21)
+                table += number(chosen.randrange(1, 0x4000)) + number(form)
+                table += number(chosen.choice((0, 0x1c, 0x1f20, 1 << 62))) if form == 0x21 else b""
+            table += number(0) + number(0)
+        unit = struct.pack("<IHBBI", 8, 5, 1, 8, 0)
+        assert leads_out(DebugSections("it", {".debug_info": unit, ".debug_abbrev": table + b"\0"})) == leads, table.hex()
+        seen.add(leads)
+    assert seen == {False, True}
 
 
 # A section of a megabyte in a frame of zstd whose window has 128 MB, where 64 MB are left.

@@ -5,7 +5,7 @@ from __future__ import annotations
 import re
 import struct
 from dataclasses import dataclass
-from typing import Callable, Iterator, Mapping, NamedTuple, Optional, Union
+from typing import Callable, Iterable, Iterator, Mapping, NamedTuple, Optional, Union
 
 from abi_tools.faults import Fault
 
@@ -130,13 +130,27 @@ class Abbreviation(NamedTuple):
 
 Table = Mapping[int, Abbreviation]
 
+def _encodings(value: int) -> bytes:
+    """A pattern for all unsigned LEB128 encodings of a number that `read_number` reads: the shortest one, and those with zeros behind it."""
+    size = max(1, (value.bit_length() + 6) // 7)
+    short = padded_number(value, size)
+    longer = re.escape(short[:-1] + bytes([short[-1] | 0x80])) + rb"\x80{0,%d}\x00" % (_LONGEST_NUMBER - size - 1)
+    return rb"(?:%b|%b)" % (re.escape(short), longer)
+
+
 _NUMBER = rb"[\x80-\xff]{0,%d}[\x00-\x7f]" % (_LONGEST_NUMBER - 1)
 _ZERO = rb"\x80{0,%d}\x00" % (_LONGEST_NUMBER - 1)
-_CONSTANT = rb"\x%02x" % FORMS["DW_FORM_implicit_const"]
+_CONSTANT = _encodings(FORMS["DW_FORM_implicit_const"])
 # An attribute and its form, which are not both 0. A value follows DW_FORM_implicit_const.
 _ATTRIBUTE = rb"(?!%b%b)%b(?:%b%b|(?!%b)%b)" % (_ZERO, _ZERO, _NUMBER, _CONSTANT, _NUMBER, _CONSTANT, _NUMBER)
 # The code of an abbreviation, its tag, the byte DW_CHILDREN, and the attributes with the pair of zeros that ends them.
 _ABBREVIATION = re.compile(rb"(%b)%b[\x00-\xff](?:%b)*%b%b" % (_NUMBER, _NUMBER, _ATTRIBUTE, _ZERO, _ZERO))
+
+
+def with_form(forms: Iterable[str]) -> re.Pattern[bytes]:
+    """A pattern for the beginning of an abbreviation, behind its code, up to the first attribute with one of these forms."""
+    wanted = b"|".join(_encodings(FORMS[form]) for form in forms)
+    return re.compile(rb"%b[\x00-\xff](?:%b)*?(?!%b%b)%b(?:%b)" % (_NUMBER, _ATTRIBUTE, _ZERO, _ZERO, _NUMBER, wanted))
 
 
 class ReadTable(Table):
@@ -167,6 +181,10 @@ class ReadTable(Table):
 
     def __len__(self) -> int:
         return len(self._places)
+
+    def matches(self, pattern: re.Pattern[bytes]) -> bool:
+        """Whether the beginning of an abbreviation, behind its code, matches a pattern of `with_form`. No abbreviation is read for it."""
+        return any(pattern.match(self._section, at) is not None for at in self._places.values())
 
     def _at(self, at: int) -> Abbreviation:
         tag, at = read_number(self._section, at)

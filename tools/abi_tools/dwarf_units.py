@@ -80,9 +80,9 @@ class Tables:
     def __init__(self, section: Bytes, where: str) -> None:
         self._section = bytes(section)
         self._where = where
-        self.read: dict[int, Table] = {}
+        self.read: dict[int, ReadTable] = {}
 
-    def at(self, offset: int) -> Table:
+    def at(self, offset: int) -> ReadTable:
         """The table at an offset. Raises a fault if it does not end in the section."""
         if offset not in self.read:
             try:

@@ -11,7 +11,7 @@ import struct
 from dataclasses import dataclass
 from typing import Mapping
 
-from abi_tools.dwarf_tables import FORM_NAMES, FORMS, Shifts, padded_number
+from abi_tools.dwarf_tables import FORM_NAMES, FORMS, Shifts, padded_number, with_form
 from abi_tools.dwarf_units import Pass, Tables, units
 from abi_tools.faults import Fault
 
@@ -24,6 +24,7 @@ REPLACED: Mapping[str, str] = {
 }
 _EIGHT_BYTES = "DW_FORM_ref_sup8"
 _TEXTS = ("DW_FORM_GNU_strp_alt", "DW_FORM_strp_sup")
+_LEADING_OUT = with_form((*REPLACED, _EIGHT_BYTES))
 # The sections to which those of the supplementary file are appended. The file's other sections stay as they are.
 _GROWING = (".debug_info", ".debug_abbrev", ".debug_str", ".debug_line_str", ".debug_line")
 # Sections of the file itself that refer to the supplementary file by other means than forms.
@@ -49,9 +50,8 @@ def leads_out(own: DebugSections) -> bool:
     tables = Tables(own.contents.get(".debug_abbrev", b""), f"{own.file}: .debug_abbrev")
     for name in (".debug_info", ".debug_types"):
         for unit in units(own.contents.get(name, b""), f"{own.file}: {name}", name == ".debug_types"):
-            for abbreviation in tables.at(unit.table).values():
-                if any(FORM_NAMES.get(one.form) in (*REPLACED, _EIGHT_BYTES) for one in abbreviation.attributes):
-                    return True
+            if unit.table not in tables.read and tables.at(unit.table).matches(_LEADING_OUT):
+                return True
     return False
 
 
