@@ -11,7 +11,7 @@ import shutil
 import subprocess
 from collections import Counter
 from pathlib import Path
-from typing import Any, Iterator
+from typing import Any, Coroutine, Iterator
 
 import pytest
 from abi_release.pages import write_page
@@ -135,6 +135,11 @@ def chromium(folder: Path, *options: str) -> subprocess.CompletedProcess[bytes]:
     return subprocess.run(command, capture_output=True, check=True, timeout=900)
 
 
+def within(seconds: float, doing: Coroutine[Any, Any, None]) -> None:
+    """Does something with a browser; fails if it takes longer."""
+    asyncio.run(asyncio.wait_for(doing, seconds))
+
+
 # The widest column of the page, the least contrast of a text with its ground (WCAG 2.1, "contrast ratio"; colours come with opacities), and
 # the smallest text.
 LOOK = """(() => {
@@ -188,8 +193,8 @@ async def found_in(place: Path) -> None:
 def test_the_page_is_readable_findable_and_whole_without_scripts(tmp_path: Path) -> None:
     needs_chromium()
     written(tmp_path, SOME + many(600))
-    asyncio.run(looked_at(tmp_path / "index.html"))
-    asyncio.run(found_in(tmp_path / "index.html"))
+    within(300, looked_at(tmp_path / "index.html"))
+    within(300, found_in(tmp_path / "index.html"))
 
 
 def test_the_page_of_a_history_is_readable(tmp_path: Path) -> None:
@@ -204,7 +209,7 @@ def test_the_page_of_a_history_is_readable(tmp_path: Path) -> None:
     ended = run(TOOLS / "abi-history", "--out", "out", *(f"2.{number}.0-1+deb12u1={file}" for number, file in enumerate(files)), folder=tmp_path)
     assert ended.status == 1 and {word for word in ("yes", "no", "cannot tell") if f"\n{word} " in f"\n{ended.out}"} == {
         "yes", "no", "cannot tell"}, ended
-    asyncio.run(looked_at(tmp_path / "out/index.html"))
+    within(300, looked_at(tmp_path / "out/index.html"))
 
 
 def test_all_lines_are_printed(tmp_path: Path) -> None:
@@ -214,7 +219,7 @@ def test_all_lines_are_printed(tmp_path: Path) -> None:
         pytest.skip("there is no pdftotext")
     written(tmp_path, many(_PRINTED))
     pdf = tmp_path / "all.pdf"
-    asyncio.run(asyncio.wait_for(browsing.printed(tmp_path / "index.html", pdf), 900 + _PRINTED // 10))
+    within(900 + _PRINTED // 10, browsing.printed(tmp_path / "index.html", pdf))
     text = subprocess.run(["pdftotext", "-layout", pdf, "-"], capture_output=True, text=True, check=True).stdout
     assert len(set(re.findall(r"\blibmade(\d+)\b(?!\.so)", text))) == _PRINTED
 
