@@ -36,25 +36,26 @@ got() {
 
 # built_zlib FOLDER FILE, built_libxml2 FOLDER FILE: builds the library of a source folder.
 built_zlib() {
-    (cd "$1" && gcc -g -O1 -fPIC -shared -w -DHAVE_UNISTD_H -DHAVE_STDARG_H -D_LARGEFILE64_SOURCE=1 -Wl,-soname,libz.so.1 \
-        -Wl,--version-script,zlib.map -Wl,--undefined-version ./*.c -o "$2") || (cd "$1" && gcc -g -O1 -fPIC -shared -w -DHAVE_UNISTD_H \
-        -DHAVE_STDARG_H -D_LARGEFILE64_SOURCE=1 -Wl,-soname,libz.so.1 -Wl,--version-script,zlib.map ./*.c -o "$2")
+    # Newer linkers refuse version scripts that name what is not there, and older ones have no option for it.
+    local option
+    for option in "" -Wl,--undefined-version; do
+        (cd "$1" && gcc -g -O1 -fPIC -shared -w -DHAVE_UNISTD_H -DHAVE_STDARG_H -D_LARGEFILE64_SOURCE=1 -Wl,-soname,libz.so.1 \
+            -Wl,--version-script,zlib.map $option ./*.c -o "$2") && return
+    done
+    return 1
 }
 built_libxml2() {
-    (
-        cd "$1"
-        [ -x configure ] || autoreconf --force --install
-        [ -e Makefile ] || ./configure --disable-static --without-python --without-lzma --without-zlib --without-icu CFLAGS='-g -O0 -w'
-        # Patches have made the files that autotools wrote look old.
-        make libxml2.la ACLOCAL=: AUTOCONF=: AUTOHEADER=: AUTOMAKE=:
-        cp .libs/libxml2.so "$2"
-    )
+    # Patches have made the files that autotools wrote look old.
+    (cd "$1" && { [ -x configure ] || autoreconf --force --install; } && {
+        [ -e Makefile ] ||
+            ./configure --disable-static --without-python --without-lzma --without-zlib --without-icu CFLAGS='-g -O0 -w'
+    } && make libxml2.la ACLOCAL=: AUTOCONF=: AUTOHEADER=: AUTOMAKE=: && cp .libs/libxml2.so "$2")
 }
 
 # edit_zlib FOLDER NUMBER, edit_libxml2 FOLDER NUMBER: makes one edit more: an export comes, it takes another type, a structure of callers
 # gets a member, both edits of types are undone, the export goes, and comes again.
 edit_zlib() { edit "$1" "$2" zlib.h 's/^typedef struct z_stream_s {/&\n    long inserted;/' zutil.c; }
-edit_libxml2() { edit "$1" "$2" include/libxml/tree.h 's/^struct _xmlNs {/&\n    long inserted;/' chvalid.c; }
+edit_libxml2() { edit "$1" "$2" include/libxml/tree.h 's/^struct _xmlEnumeration {/&\n    long inserted;/' chvalid.c; }
 edit() {
     local added='__attribute__((visibility("default"))) int added_by_an_edit(int n) { return n; }'
     case $2 in
