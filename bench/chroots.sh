@@ -15,7 +15,8 @@ shift 2
 [ $# -gt 0 ] || set -- bullseye bookworm trixie
 examples=$(cd "$(dirname "$0")/../examples" && pwd)
 export LC_ALL=C DEBIAN_FRONTEND=noninteractive
-mkdir -p "$folder/base" "$folder/data"
+[ -d "$folder/base" ] || mkdir -p "$folder/base"
+mkdir -p "$folder/data"
 failed=0
 
 # libraries: makes what is judged: a library, a build of it that may replace it, one that may not, and a package of each.
@@ -83,6 +84,7 @@ tried() {
     rm -rf "$root"
     cp -a "$folder/base/$1" "$root"
     cp /etc/resolv.conf "$root/etc/resolv.conf"
+    mount -t proc proc "$root/proc"
     mkdir "$root/data" "$root/packages"
     cp "$folder"/data/*.so "$folder"/data/*.deb "$root/data"
     cp "$packages"/abi[_-]* "$root/packages"
@@ -111,5 +113,6 @@ for release in "$@"; do
         echo "$release: failed; see $folder/$release.*"
         failed=1
     fi
+    umount "$folder/$release/proc" 2>/dev/null || true
 done
 exit "$failed"

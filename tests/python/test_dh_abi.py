@@ -107,7 +107,7 @@ def test_a_package_from_its_first_build_to_a_break(package: Path, tmp_path: Path
                     "stream.c": SOURCE.replace("int a;", "long a;") + "int one(void) { return 1; }\n"})
     ended = build(package)
     assert ended.status == 0 and "yes: 2 exports compared, 2 with types" in ended.out, ended
-    assert ended.out.index(" dh_dwz") < ended.out.index(" dh_abi") < ended.out.index(" dh_strip\n")
+    assert ended.out.index(" dh_dwz") < ended.out.index(" dh_abi") < ended.out.index(" dh_strip -a")
     usr = contents(package, tmp_path / "made")
     document = usr / "share/doc/libstream1"
     assert (document / "abi.rules").read_text() == "[suppress_type]\nname = inside\n"

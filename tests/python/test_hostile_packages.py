@@ -21,6 +21,7 @@ from package_support import (CHANGED, LIBRARIES, Build, Member, deb, hostile_deb
 
 from fuzz_packages import corpus as fuzzed
 
+from abi_tools import jobs
 from abi_tools.archives import Archive
 from abi_tools.elf_files import ElfFile
 
@@ -500,6 +501,14 @@ def test_a_closed_pipe_is_no_answer(old: Path, tmp_path: Path) -> None:
     ended = run("bash", "-c", f"set -o pipefail; {TOOLS}/abi-packages --certificates {tmp_path}/kept {old} -- {old} | true; "
                               "echo ${PIPESTATUS[0]}")
     assert ended.out.strip() != "1" and "Traceback" not in ended.errors, ended
+
+
+def test_without_proc_there_is_a_sentence(old: Path, tmp_path: Path, monkeypatch: pytest.MonkeyPatch) -> None:
+    """As in a new chroot."""
+    monkeypatch.setattr(jobs, "_MEMORY", str(tmp_path / "none"))
+    ended = packages(tmp_path, old, "--", old)
+    assert (ended.status, ended.out) == (2, "") and "there is no /proc: mount it" in ended.errors, ended
+    assert len(ended.errors.splitlines()) == 1
 
 
 def test_a_fault_of_the_tool_is_no_answer(old: Path, tmp_path: Path, monkeypatch: pytest.MonkeyPatch) -> None:

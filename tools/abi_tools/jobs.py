@@ -23,6 +23,8 @@ _WAITS = 20
 _PIECE = 1 << 20
 # prctl(2)
 _PR_SET_PDEATHSIG = 1
+# How much memory this process has (proc(5)).
+_MEMORY = "/proc/self/statm"
 
 Value = TypeVar("Value")
 
@@ -63,7 +65,9 @@ class Steps(Generic[Value]):
         self._ready = select.poll()
 
     def run(self, steps: Sequence[Callable[[], Value]]) -> Iterator[tuple[int, Union[Value, Failure]]]:
-        """Runs all steps, and yields the number and the value of each as it ends."""
+        """Runs all steps, and yields the number and the value of each as it ends. Raises a fault if the system cannot limit them."""
+        if steps and not os.path.exists(_MEMORY):
+            raise Fault("there is no /proc: mount it, as by mount -t proc proc /proc; memory cannot be limited without it")
         left = list(reversed(range(len(steps))))
         try:
             while left or self._running:
@@ -155,7 +159,7 @@ def _become_step(limits: StepLimits) -> None:
     ctypes.CDLL(None).prctl(_PR_SET_PDEATHSIG, signal.SIGKILL)
     for number in (signal.SIGTERM, signal.SIGINT, signal.SIGHUP):
         signal.signal(number, signal.SIG_DFL)
-    with open("/proc/self/statm", encoding="ascii") as stream:
+    with open(_MEMORY, encoding="ascii") as stream:
         taken = int(stream.read().split()[0]) * _PAGE
     lower(resource.RLIMIT_AS, taken + limits.megabytes * _MEGABYTE)
     lower(resource.RLIMIT_CPU, int(time.process_time()) + limits.seconds)
