@@ -69,8 +69,10 @@ wants 1 abi-report --format html same.so broken.so
 wants 0 abi-baseline same.so same.abi
 wants 0 abi-gate same.abi next.so
 wants 0 join-debug same.so joined.so
-wants 0 abi-history --out history 1=same.so 2=next.so
-for tool in abi-gate abi-packages abi-report abi-baseline abi-history join-debug; do wants 0 "$tool" --help; done
+# What is only suggested is named.
+wants 2 abi-history --out history 1=same.so 2=next.so
+has 'install the package python3-distributed'
+for tool in abi-gate abi-packages abi-report abi-baseline join-debug; do wants 0 "$tool" --help; done
 wants 0 /usr/bin/python3 -c 'import abi; print(len(abi.check("same.so", "broken.so").breaks))'
 has '^3$'
 echo 'all held'

@@ -21,7 +21,7 @@ from package_support import (CHANGED, LIBRARIES, Build, Member, deb, hostile_deb
 
 from fuzz_packages import corpus as fuzzed
 
-from abi_tools import jobs
+from abi_tools import archives, jobs
 from abi_tools.archives import Archive
 from abi_tools.elf_files import ElfFile
 
@@ -501,6 +501,14 @@ def test_a_closed_pipe_is_no_answer(old: Path, tmp_path: Path) -> None:
     ended = run("bash", "-c", f"set -o pipefail; {TOOLS}/abi-packages --certificates {tmp_path}/kept {old} -- {old} | true; "
                               "echo ${PIPESTATUS[0]}")
     assert ended.out.strip() != "1" and "Traceback" not in ended.errors, ended
+
+
+def test_other_versions_of_the_binding_of_libarchive_do(old: Path, tmp_path: Path, monkeypatch: pytest.MonkeyPatch) -> None:
+    """That of Debian 13 lacks names that the one of Debian 12 has."""
+    for name in ("VOID_CB", "read_support_format_tar", "read_support_format_cpio"):
+        monkeypatch.delattr(archives.ffi, name, raising=False)
+    ended = packages(tmp_path, old, "--", old)
+    assert ended.status == 0, ended
 
 
 def test_without_proc_there_is_a_sentence(old: Path, tmp_path: Path, monkeypatch: pytest.MonkeyPatch) -> None:

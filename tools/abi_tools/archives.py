@@ -7,7 +7,7 @@ import enum
 import errno
 import logging
 import stat
-from typing import Iterator, NamedTuple, Optional
+from typing import Callable, Iterator, NamedTuple, Optional
 
 from libarchive import ffi
 from libarchive.exception import ArchiveError
@@ -81,10 +81,10 @@ class Archive:
         refuses: headers of pax, and sparse files. At the end all pieces were read, so that their decompressor has checked them."""
         archive, entry = ffi.read_new(), ffi.entry_new()
         # ctypes keeps no reference to a function that C calls.
-        calls = ffi.OPEN_CALLBACK(ffi.VOID_CB), ffi.READ_CALLBACK(self._next_piece), ffi.CLOSE_CALLBACK(ffi.VOID_CB)
+        calls = ffi.OPEN_CALLBACK(_nothing), ffi.READ_CALLBACK(self._next_piece), ffi.CLOSE_CALLBACK(_nothing)
         try:
             self._archive = archive
-            getattr(ffi, f"read_support_format_{self._form}")(archive)
+            self._checked(_reading(self._form), archive)
             self._checked(ffi.read_open, archive, None, *calls)
             while self._is_next(archive, entry):
                 yield self._member(archive, entry)
@@ -175,6 +175,18 @@ class Archive:
         if self._form == "tar" and is_odd:
             raise Fault(f"{self.file} has a member that dpkg would read in another way: {name_shown(member.name)}")
         return member
+
+
+def _nothing(*_: object) -> int:
+    """What libarchive calls to open and to close, where there is nothing to do."""
+    return int(ffi.ARCHIVE_OK)
+
+
+def _reading(form: str) -> Callable[[int], int]:
+    """The function of libarchive that lets it read a form of archives. Only some versions of the binding have it."""
+    function: Callable[[int], int] = getattr(ffi.libarchive, f"archive_read_support_format_{form}")
+    function.argtypes, function.restype = [ctypes.c_void_p], ctypes.c_int  # type: ignore[attr-defined]
+    return function
 
 
 # The kinds of members by the bits of their modes.
