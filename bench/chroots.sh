@@ -7,7 +7,7 @@
 # usage: bench/chroots.sh FOLDER PACKAGES [RELEASE..]   (default: bullseye bookworm trixie)
 #
 # PACKAGES is the folder with the packages, and FOLDER gets the chroots (300 MB each) and logs. Run it as root, with the packages
-# debootstrap, gcc, dpkg-dev and rpm2cpio installed. It needs the network. A chroot RELEASE in FOLDER/base is copied and not made.
+# debootstrap, gcc, dpkg-dev and libarchive-tools installed. It needs the network. A chroot RELEASE in FOLDER/base is copied and not made.
 set -eu
 folder=$(realpath -m "${1:?a folder for the chroots}")
 packages=$(realpath "${2:?the folder with the packages}")
@@ -101,7 +101,7 @@ tried() {
     chroot "$root" dpkg -r abi >>"$folder/$1.log" 2>&1 || return 1
     mkdir "$root/archive" "$root/rpm"
     tar -xJf "$packages"/abi-*-x86_64.tar.xz --strip-components=1 -C "$root/archive" || return 1
-    (cd "$root/rpm" && rpm2cpio "$packages"/abi-*.x86_64.rpm | cpio --quiet -id) || return 1
+    bsdtar -xf "$packages"/abi-*.x86_64.rpm -C "$root/rpm" || return 1
     for word in archive rpm/usr; do
         chroot "$root" env PATH="/$word/bin:/usr/bin:/bin" PYTHONPATH="/$word/lib/abi/tools" bash /trial >"$folder/$1.${word%/usr}" 2>&1 || return 1
     done
