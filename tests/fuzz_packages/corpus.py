@@ -59,7 +59,7 @@ def tar(members: Sequence[Member]) -> bytes:
     with tarfile.open(fileobj=made, mode="w", format=tarfile.GNU_FORMAT, encoding="utf-8", errors="surrogateescape") as archive:
         for one in members:
             entry = tarfile.TarInfo(one.name)
-            entry.type, entry.linkname, entry.size = one.kind, one.target, len(one.contents)
+            entry.type, entry.linkname, entry.size, entry.mode = one.kind, one.target, len(one.contents), 0o755
             archive.addfile(entry, io.BytesIO(one.contents))
     return made.getvalue()
 

@@ -106,6 +106,7 @@ class Trials:
         command = (["dpkg-deb", "-x", str(package), str(folder)] if is_deb
                    else ["sh", "-c", f"rpm2cpio '{package}' | bsdtar -xf - -C '{folder}'"])
         subprocess.run(command, capture_output=True, check=False, stdin=subprocess.DEVNULL)
+        subprocess.run(["chmod", "-R", "u+rwX", str(folder)], capture_output=True, check=False)
         names = {os.path.relpath(os.path.join(at, name), folder) for at, _, files in os.walk(folder) for name in files}
         found = {name: leads_to(folder, name) for name in (*names, *LOADED)}
         return {name: place.read_bytes() for name, place in found.items() if place is not None and place.is_file()}

@@ -62,6 +62,9 @@ class LibraryNames:
         self.libraries = tuple(libraries)
         self._tree = _installed(trees)
         self._files = {_merged_name(one.name): one for one in libraries}
+        # Of two files of one name on a merged system, such as `lib/libx.so.1` and `usr/lib/libx.so.1`, nothing says which one stays.
+        self.doubled = {library for one in libraries for library in (one, self._files[_merged_name(one.name)])
+                        if self._files[_merged_name(one.name)] is not one}
         self.names: dict[str, PackagedLibrary] = {}
         for name, library in self._leading():
             self.names[name] = library
@@ -104,7 +107,8 @@ class LibraryNames:
 
     def loaded_names(self, library: PackagedLibrary) -> list[str]:
         """The names by which the loader opens a library: those that end in its soname."""
-        return [name for name in self._by_library[library] if name.rpartition("/")[2] == library.soname]
+        names = self._by_library.get(library, [_merged_name(library.name)])
+        return [name for name in names if name.rpartition("/")[2] == library.soname]
 
     def places(self, library: PackagedLibrary) -> dict[Place, None]:
         """Where a library is found: the place of its file, and those of the names by which the loader opens it."""

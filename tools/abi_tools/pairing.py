@@ -100,7 +100,12 @@ class _Sides:
                 partners.setdefault(pair.old, []).append(pair.new)
         doubts = {old: self._doubt(old, news) for old, news in partners.items() if old is not None}
         paired = (replace(pair, doubt=doubts[pair.old] if pair.old is not None else "") for pair in self.pairs)
-        yield from (replace(pair, trouble=self.trouble or pair.trouble) for pair in (*paired, *_rest(self)))
+        yield from (replace(pair, trouble=self.trouble or self._doubled(pair) or pair.trouble) for pair in (*paired, *_rest(self)))
+
+    def _doubled(self, pair: Pair) -> str:
+        """Why nothing can be told of a library if another file has its name on a merged system; empty if none has."""
+        found = pair.old if pair.old in self.old_names.doubled else pair.new if pair.new in self.new_names.doubled else None
+        return "" if found is None else f"on a merged system another file of the packages has the name of {name_shown(found.name)}"
 
     def _doubt(self, old: PackagedLibrary, news: Sequence[PackagedLibrary]) -> str:
         """Why a program that found the old library may find none of those that it is compared with; empty if it does."""
