@@ -16,7 +16,7 @@ from pathlib import Path
 from typing import Callable, Iterator
 
 import pytest
-from conftest import FIRST, SECOND, TOOLS, done, needs, run, script
+from conftest import FIRST, SECOND, TOOLS, done, needs, run, script, tool
 from package_support import (CHANGED, LIBRARIES, Build, Member, deb, hostile_deb, installed, link, packages, packed, rpm, tar)
 
 from fuzz_packages import corpus as fuzzed
@@ -28,16 +28,27 @@ from abi_tools.elf_files import ElfFile
 SONAME = "libshapes.so.1"
 
 
+# The libraries of most tests, built once.
+_BUILT: dict[str, bytes] = {}
+
+
+def built_once(build: Build, text: str) -> bytes:
+    """A library of a source."""
+    if text not in _BUILT:
+        _BUILT[text] = build("library.so", text, soname=SONAME).read_bytes()
+    return _BUILT[text]
+
+
 @pytest.fixture
 def good(build: Build) -> bytes:
     """A library."""
-    return build("good.so", FIRST, soname=SONAME).read_bytes()
+    return built_once(build, FIRST)
 
 
 @pytest.fixture
 def bad(build: Build) -> bytes:
     """A library that may not replace the good one."""
-    return build("bad.so", CHANGED, soname=SONAME).read_bytes()
+    return built_once(build, CHANGED)
 
 
 @pytest.fixture
@@ -123,12 +134,12 @@ def test_folders_that_some_loaders_search(old: Path, good: bytes, bad: bytes, tm
 
 
 @pytest.mark.parametrize("folder", ("usr/lib/schöne", "usr/lib/a\\b", "usr/lib/a b"))
-@pytest.mark.parametrize("locale", ("C", "C.UTF-8"))
-def test_names_in_an_rpm_are_bytes(build: Build, tmp_path: Path, folder: str, locale: str) -> None:
+def test_names_in_an_rpm_are_bytes(build: Build, tmp_path: Path, folder: str) -> None:
     made = [rpm(tmp_path, name, {f"{folder}/{SONAME}": build(f"{name}.so", text, soname=SONAME)})
             for name, text in (("old", FIRST), ("new", CHANGED))]
-    ended = run("env", f"LC_ALL={locale}", TOOLS / "abi-packages", "--certificates", tmp_path / "kept", made[0], "--", made[1])
-    assert ended.status == 1 and ended.out.startswith(f"no {SONAME}: "), ended
+    for setting in ("C", "C.UTF-8"):
+        ended = run("env", f"LC_ALL={setting}", TOOLS / "abi-packages", "--certificates", tmp_path / "kept", made[0], "--", made[1])
+        assert ended.status == 1 and ended.out.startswith(f"no {SONAME}: "), ended
 
 
 def test_an_rpm_installs_what_its_header_lists(old: Path, good: bytes, bad: bytes, tmp_path: Path) -> None:
@@ -363,10 +374,11 @@ def peak(arguments: list[object]) -> tuple[int, int, str]:
 
 @pytest.mark.parametrize("way, compressor", ((".gz", "gzip -1"), (".xz", "xz -0"), (".zst", "zstd -q --ultra --long=31")))
 def test_a_bomb_is_refused_or_costs_no_memory(old: Path, tmp_path: Path, way: str, compressor: str) -> None:
-    """A file of 600 MB that is no library, one of 2 GB that may be one, and a window of zstd that asks for 2 GB of memory."""
-    for name, start, size in (("text", "", 600 << 20), ("elf", "\\177ELF", 2 << 30)):
+    """A file of 450 MB that is no library, one of 2 GB that may be one, and a window of zstd that asks for 2 GB of memory."""
+    whole = 450 << 20
+    for name, start, size in (("text", "", whole), ("elf", "\\177ELF", 2 << 30)):
         (tmp_path / "head").write_bytes(tar([Member("usr/lib/zeros", size=size)])[:512])
-        zeros = (600 << 20) + 1024 - (4 if start else 0)
+        zeros = whole + 1024 - (4 if start else 0)
         done("sh", "-c", f"(cat head; printf '{start}'; head -c {zeros} /dev/zero) | {compressor} >bomb", folder=tmp_path)
         new = packed(tmp_path / f"{name}.deb", (f"data.tar{way}", (tmp_path / "bomb").read_bytes()))
         assert new.stat().st_size < 3 << 20
@@ -487,9 +499,10 @@ def test_what_ended_abi_is_told(old: Path, tmp_path: Path, monkeypatch: pytest.M
 def test_wrong_arguments_have_their_own_status(old: Path, tmp_path: Path) -> None:
     for arguments in ([], [old], [old, "--"], ["--", old], [old, "--", old, "--rules", "x"], ["--require-types", "101", old, "--", old],
                       ["--workers", "0", old, "--", old], ["--only", "what", old, "--", old], ["--unknown", old, "--", old]):
-        ended = script("abi-packages", *arguments)
+        ended = tool("abi-packages", *arguments)
         assert ended.status == 64 and ended.out == "" and "usage: abi-packages" in ended.errors, ended
-    assert script("abi-gate", "one").status == 64
+    for name in ("abi-packages", "abi-gate"):
+        assert script(name, "one").status == 64
 
 
 def test_the_limits_are_listed() -> None:
