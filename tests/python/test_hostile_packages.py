@@ -188,7 +188,8 @@ def test_members_that_dpkg_refuses_are_refused(old: Path, good: bytes, tmp_path:
     name = f"usr/lib/{SONAME}"
     archive = tar([Member(name, good)])
     for number, (part, words) in enumerate((
-            ([("data.tar.zip", archive)], "data.tar.zip"), ([("other", b""), ("data.tar", archive)], "other where data.tar"),
+            ([("data.tar.zip", archive)], "data.tar.zip"), ([("data\xa0\x9b", archive)], "data\\xa0\\x9b"),
+            ([("other", b""), ("data.tar", archive)], "other where data.tar"),
             ([("control.tar", archive)], "control.tar where data.tar"), ([], "no member data.tar"),
             ([("data.tar", tar([Member(f"usr/lib/{'é' * 80}/{SONAME}", good)], tarfile.PAX_FORMAT))], "pax"),
             ([("data.tar.xz", archive)], "damaged"), ([("data.tar.gz", gzip.compress(archive) + b"more")], "other bytes follow"),

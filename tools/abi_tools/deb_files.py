@@ -7,6 +7,7 @@ from dataclasses import dataclass
 from typing import BinaryIO, Iterator, Optional
 
 from abi_tools.faults import Fault
+from abi_tools.shown import name_shown
 from abi_tools.streams import PIECE, WAYS, inflated
 
 MAGIC = b"!<arch>\n"
@@ -57,7 +58,7 @@ def _chosen(stream: BinaryIO, file: object) -> dict[str, _Member]:
             kind = _DATA if _CONTROL in found else _CONTROL
             suffix = member.name.removeprefix(kind)
             if suffix == member.name or suffix not in (WAYS if kind == _DATA else _WAYS_OF_CONTROL):
-                raise Fault(f"{file} is damaged: it has a member {member.name} where {kind} should be")
+                raise Fault(f"{file} is damaged: it has a member {name_shown(member.name)} where {kind} should be")
             found[kind] = member
             if kind == _DATA:
                 return found
@@ -80,7 +81,7 @@ def _members(stream: BinaryIO, file: object) -> Iterator[_Member]:
         size = _size(header[_SIZE])
         if len(header) < _HEADER or header[_END] != _END_OF_HEADER or size is None or at + _HEADER + size > end:
             raise Fault(f"{file} is damaged: a member is cut short, or its header is damaged")
-        name = header[_NAME].rstrip(b" ").removesuffix(b"/").decode("latin-1")
+        name = header[_NAME].rstrip(b" ").removesuffix(b"/").decode("ascii", "surrogateescape")
         yield _Member(name, at + _HEADER, size)
         # Members begin at even offsets.
         at += _HEADER + size + size % 2
