@@ -355,7 +355,8 @@ def test_the_component_of_gitlab(project: Path, archive: Path, tmp_path: Path) -
 
         # the runner's folder for all files that are not of the project
         script = "\n".join(put(line).replace("/tmp/", f"{tmp_path / 'runner'}/") for line in job["script"])
-        (tmp_path / "runner").mkdir(exist_ok=True)
+        shutil.rmtree(tmp_path / "runner", ignore_errors=True)
+        (tmp_path / "runner").mkdir()
         variables = [f"{name}={put(one)}" for name, one in job["variables"].items()]
         return run("env", *variables, f"PATH={clean}", "bash", "-e", "-o", "pipefail", "-c", script, folder=project)
 
