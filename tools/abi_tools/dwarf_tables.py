@@ -130,6 +130,7 @@ class Abbreviation(NamedTuple):
 
 Table = Mapping[int, Abbreviation]
 
+
 def _encodings(value: int) -> bytes:
     """A pattern for all unsigned LEB128 encodings of a number that `read_number` reads: the shortest one, and those with zeros behind it."""
     size = max(1, (value.bit_length() + 6) // 7)
