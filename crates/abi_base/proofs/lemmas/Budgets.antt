@@ -1,8 +1,8 @@
 -- Reading places one after another within a budget.
-use Rattle.std.proofs.Common.{◌≡◌, ℕ, zero, suc, ◌+◌, ◌<◌, ◌≤◌, List, [], ◌∷◌, map, Option, None, refl, ◌∙◌, ap, arith}
+use Rattle.std.proofs.Common.{◌≡◌, ℕ, zero, suc, ◌+◌, ◌<◌, ◌≤◌, List, [], ◌∷◌, ◌++◌, map, Option, None, refl, ◌∙◌, ap, arith}
 use Rattle.std.specs.List.{range_with_len, sum_by}
 use Rattle.std.proofs.lemmas.List.{map-append}
-use Rattle.std.proofs.lemmas.List.Sums.{sum_by-cons, sum_by_push}
+use Rattle.std.proofs.lemmas.List.Sums.{sum_by-append, sum_by-cons, sum_by_push}
 use Rattle.abi_base.specs.declared.fault.Fault.{Fault}
 use Rattle.abi_base.specs.declared.limit.Limit.{Limit}
 use Rattle.abi_base.specs.Budgets.{BudgetState, fresh, with_taken, allowed, counted, Passes}
@@ -73,3 +73,39 @@ counted_front cost a (suc k) (suc n) le =
 pub passes_all : (most : ℕ) (fault : ℕ → Option Fault) (cost : ℕ → ℕ) (count : ℕ) → Passes most fault cost count → most < counted cost count
 passes_all most fault cost count passes =
     omega (arith, passes.above, counted_front cost 0 (passes.place + 1) count (omega (arith, passes.below)))
+
+-- ---- items of a list, one after another
+
+-- What the items so far count was taken of the budget.
+pub record SpentOn {A : Type 0} (limit : Limit) (units : ℕ) (cost : A → ℕ) (items : List A) (budget : BudgetState) : Type 0 where
+  pub limit_is : budget.limit ≡ limit
+  pub most : budget.most ≡ allowed limit units
+  pub taken : budget.taken ≡ sum_by cost items
+  pub within : budget.taken ≤ budget.most
+
+pub on_none : {A : Type 0} (limit : Limit) (units : ℕ) (cost : A → ℕ) (budget : BudgetState) → budget ≡ fresh limit units → SpentOn limit units cost [] budget
+on_none limit units cost budget is = record {
+  limit_is = ap (λ (b : BudgetState). b.limit) is;
+  most = ap (λ (b : BudgetState). b.most) is;
+  taken = ap (λ (b : BudgetState). b.taken) is;
+  within = omega (arith, ap (λ (b : BudgetState). b.taken) is);
+}
+
+pub on_more : {A : Type 0} (limit : Limit) (units : ℕ) (cost : A → ℕ) (items : List A) (item : A) (n : ℕ) (budget next : BudgetState) → SpentOn limit units cost items budget
+    → cost item ≡ n → budget.taken + n ≤ budget.most → next ≡ with_taken budget n → SpentOn limit units cost (items ++ item ∷ []) next
+on_more limit units cost items item n budget next so_far costs fits took = record {
+  limit_is = ap (λ (b : BudgetState). b.limit) took ∙ so_far.limit_is;
+  most = ap (λ (b : BudgetState). b.most) took ∙ so_far.most;
+  taken = omega (arith, ap (λ (b : BudgetState). b.taken) took, so_far.taken, sum_by_push cost items item, costs);
+  within = omega (arith, ap (λ (b : BudgetState). b.taken) took, ap (λ (b : BudgetState). b.most) took, fits);
+}
+
+-- Where an item does not fit, the items up to it, and those behind it, count more than is allowed.
+pub on_past : {A : Type 0} (limit : Limit) (units : ℕ) (cost : A → ℕ) (items : List A) (item : A) (rest : List A) (n : ℕ) (budget : BudgetState) → SpentOn limit units cost items budget
+    → cost item ≡ n → budget.most < budget.taken + n → allowed limit units < sum_by cost (items ++ item ∷ rest)
+on_past limit units cost items item rest n budget so_far costs above =
+    omega (arith, above, so_far.most, so_far.taken, sum_by-append cost items (item ∷ rest), sum_by-cons cost item rest, costs)
+
+pub on_whole : {A : Type 0} (limit : Limit) (units : ℕ) (cost : A → ℕ) (items : List A) (budget : BudgetState) → SpentOn limit units cost items budget
+    → sum_by cost items ≤ allowed limit units
+on_whole limit units cost items budget so_far = omega (arith, so_far.within, so_far.most, so_far.taken)
