@@ -1,5 +1,6 @@
 // The nodes of a graph, ordered by their entries.
-ghost use Rattle.std.specs.Prelude.{◌≡◌, ◌≢◌, ◌<◌, All, IfOk, IfSome, IfNone, length};
+ghost use Rattle.std.specs.Prelude.{◌≡◌, ◌≢◌, ◌<◌, All, IfErr, IfOk, IfSome, IfNone, length};
+ghost use Rattle.abi_base.specs.declared.fault.NoMemory.TheVariants.{Allocation};
 ghost use Rattle.abi_types.specs.Entries.{IsEntryOrder};
 ghost use Rattle.abi_types.specs.Entries as spec;
 
@@ -24,7 +25,8 @@ fn entry_at<Ix: Index>(nodes: &[Node<Ix>], number: usize) -> u64
 /// The numbers of all nodes, ordered by entry.
 // Most graphs have their nodes in that order already; one pass then suffices.
 pub fn entry_order_of<Ix: Index>(alloc: Global, nodes: &[Node<Ix>]) -> Result<Vec<usize>, NoMemory>
-    ensures { IfOk result (λ order. IsEntryOrder order.items nodes.now) }
+    ensures order { IfOk result (λ order. IsEntryOrder order.items nodes.now) }
+    ensures named { IfErr result (λ e. e ≡ Allocation) }
 {
     let mut order = numbers_below(alloc, nodes.len())?;
     order.sort_unstable_by_key(|number| entry_at(nodes, *number));

@@ -1,5 +1,6 @@
 // The types of a library as a graph.
-ghost use Rattle.std.specs.Prelude.{◌≡◌, ◌<◌, length, map, IfOk, IfSome};
+ghost use Rattle.std.specs.Prelude.{◌≡◌, ◌<◌, length, map, IfErr, IfOk, IfSome};
+ghost use Rattle.abi_base.specs.declared.fault.NoMemory.TheVariants.{Allocation};
 ghost use Rattle.std.specs.Option.{option_map};
 ghost use Rattle.abi_types.specs.Plain.{plain_label};
 ghost use Rattle.abi_types.specs.Graphs.{IsGraph, node_at, node_of, shaped, view_at};
@@ -65,7 +66,8 @@ impl<'a, Ix: Index> Graph<'a, Ix> {
     /// The graph of these nodes. Each node's number is its position in the list.
     pub fn of_nodes(alloc: Global, nodes: List<Node<'a, Ix>>) -> Result<Graph<'a, Ix>, NoMemory>
         requires { IsGraph nodes }
-        ensures { IfOk result (λ g. g ≡ nodes.entry) }
+        ensures graph { IfOk result (λ g. g ≡ nodes.entry) }
+        ensures named { IfErr result (λ e. e ≡ Allocation) }
     {
         let by_entry = entry_order_of(alloc, nodes.as_slice())?;
         Ok(Graph { nodes, by_entry })

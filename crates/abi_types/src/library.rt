@@ -1,5 +1,6 @@
 // A library as the comparison sees it, and what a rule file excludes from it.
-ghost use Rattle.std.specs.Prelude.{◌≡◌, IfOk};
+ghost use Rattle.std.specs.Prelude.{◌≡◌, IfErr, IfOk};
+ghost use Rattle.abi_base.specs.declared.fault.NoMemory.TheVariants.{Allocation};
 ghost use Rattle.std.specs.Option.{option_copied};
 ghost use Rattle.abi_types.specs.Plain.{plain_exports};
 ghost use Rattle.abi_types.specs.Libraries.{plain_library, IsLibrary};
@@ -57,7 +58,8 @@ impl<'a, Ix: Index> Library<'a, Ix> {
         graph: Graph<'a, Ix>,
     ) -> Result<Library<'a, Ix>, NoMemory>
         requires { IsLibrary (plain_exports exports) graph }
-        ensures { IfOk result (λ library. library ≡ plain_library (sha256 file.now) soname.entry exports.entry graph.entry) }
+        ensures library { IfOk result (λ library. library ≡ plain_library (sha256 file.now) soname.entry exports.entry graph.entry) }
+        ensures named { IfErr result (λ e. e ≡ Allocation) }
     {
         let by_name = name_order_of(alloc, exports.as_slice())?;
         let by_version = version_order_of(alloc, exports.as_slice())?;

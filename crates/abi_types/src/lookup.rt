@@ -1,6 +1,7 @@
 // An index of parts by sort and name, which saves a linear search for each. A file chooses the names, so the places are sorted and
 // searched by halves: in a table of hash codes a file could make names collide.
-ghost use Rattle.std.specs.Prelude.{◌≡◌, ◌+◌, ◌<◌, ◌^◌, ℕ, map, if◌then◌else◌, IfOk, OnOk, IsPermutation};
+ghost use Rattle.std.specs.Prelude.{◌≡◌, ◌+◌, ◌<◌, ◌^◌, ℕ, map, if◌then◌else◌, IfErr, IfOk, OnOk, IsPermutation};
+ghost use Rattle.abi_base.specs.declared.fault.NoMemory.TheVariants.{Allocation};
 ghost use Rattle.abi_types.specs.Types.{PlainPart};
 ghost use Rattle.abi_types.specs.Parts.{plain_part, like};
 ghost use Rattle.abi_types.specs.Lookups.{count_under, number_cmp, IsNamedPlace, IsInOrder, IsFound, IsLookup};
@@ -40,6 +41,7 @@ fn count_up<'a, Ix: Index>(
     requires { count_under counts.old (plain_part Ix.number_of part.now) + 1 < 2 ^ 64 }
     ensures number { IfOk result (λ n. n ≡ count_under counts.old (plain_part Ix.number_of part.now)) }
     ensures counts { OnOk result ((q : PlainPart) → count_under counts.new q ≡ count_under counts.old q + (if like q (plain_part Ix.number_of part.now) then 1 else 0)) }
+    ensures named { IfErr result (λ e. e ≡ Allocation) }
 {
     let key = (sort_of(part), name_of(part));
     let number = counts.get(&key).copied().unwrap_or(0);
@@ -83,7 +85,8 @@ pub fn lookup_of<'a, Ix: Index>(
     alloc: Global,
     items: &[Part<'a, Ix>],
 ) -> Result<Lookup<'a>, NoMemory>
-    ensures { IfOk result (λ lookup. IsLookup lookup (map (plain_part Ix.number_of) items.now)) }
+    ensures lookup { IfOk result (λ lookup. IsLookup lookup (map (plain_part Ix.number_of) items.now)) }
+    ensures named { IfErr result (λ e. e ≡ Allocation) }
 {
     let mut counts = BTreeMap::new(alloc);
     let mut numbers = Vec::new(alloc);

@@ -1,5 +1,6 @@
 // The parts of a type, in their order.
-ghost use Rattle.std.specs.Prelude.{◌≡◌, ◌==◌, ◌<◌, [], ◌∷◌, length, map, slice_index_or, IfSome, IfOk};
+ghost use Rattle.std.specs.Prelude.{◌≡◌, ◌==◌, ◌<◌, [], ◌∷◌, length, map, slice_index_or, IfSome, IfErr, IfOk};
+ghost use Rattle.abi_base.specs.declared.fault.NoMemory.TheVariants.{Allocation};
 ghost use Rattle.abi_types.specs.Graphs.{no_part};
 ghost use Rattle.std.specs.Option.{ForSome};
 ghost use Rattle.abi_types.specs.Parts.{plain_part, like};
@@ -60,7 +61,8 @@ fn kept_lookup<'a, Ix: Index>(
     alloc: Global,
     items: &[Part<'a, Ix>],
 ) -> Result<Option<Box<Lookup<'a>>>, NoMemory>
-    ensures { IfOk result (λ lookup. ForSome lookup (λ kept. IsLookup kept.value (map (plain_part Ix.number_of) items.now))) }
+    ensures lookup { IfOk result (λ lookup. ForSome lookup (λ kept. IsLookup kept.value (map (plain_part Ix.number_of) items.now))) }
+    ensures named { IfErr result (λ e. e ≡ Allocation) }
 {
     if items.len() <= SHORT {
         return Ok(None);
@@ -89,7 +91,8 @@ impl<'a, Ix: Index> Parts<'a, Ix> {
 
     // Several parts.
     fn many(alloc: Global, items: Vec<Part<'a, Ix>>) -> Result<Parts<'a, Ix>, NoMemory>
-        ensures { IfOk result (λ parts. parts ≡ map (plain_part Ix.number_of) items.entry.items) }
+        ensures parts { IfOk result (λ parts. parts ≡ map (plain_part Ix.number_of) items.entry.items) }
+        ensures named { IfErr result (λ e. e ≡ Allocation) }
     {
         let lookup = kept_lookup(alloc, items.as_slice())?;
         let items = List::of(items);
@@ -101,7 +104,8 @@ impl<'a, Ix: Index> Parts<'a, Ix> {
 
     /// These parts, in order. With a single part the vector is freed.
     pub fn of(alloc: Global, mut items: Vec<Part<'a, Ix>>) -> Result<Parts<'a, Ix>, NoMemory>
-        ensures { IfOk result (λ parts. parts ≡ map (plain_part Ix.number_of) items.entry.items) }
+        ensures parts { IfOk result (λ parts. parts ≡ map (plain_part Ix.number_of) items.entry.items) }
+        ensures named { IfErr result (λ e. e ≡ Allocation) }
     {
         if items.len() > 1 {
             return Parts::many(alloc, items);
@@ -114,7 +118,8 @@ impl<'a, Ix: Index> Parts<'a, Ix> {
 
     /// The same parts, shared without a copy. Fails only where too many types share them.
     pub fn shared(&self) -> Result<Parts<'a, Ix>, NoMemory>
-        ensures { IfOk result (λ parts. parts ≡ self.now) }
+        ensures parts { IfOk result (λ parts. parts ≡ self.now) }
+        ensures named { IfErr result (λ e. e ≡ Allocation) }
     {
         match &self.kept {
             PartStorage::Nothing => Ok(Parts {

@@ -1,5 +1,6 @@
 // Where a call passes an argument or a result (System V psABI for x86-64, section 3.2.3 "Parameter Passing").
-ghost use Rattle.std.specs.Prelude.{◌≡◌, IfOk};
+ghost use Rattle.std.specs.Prelude.{◌≡◌, IfErr, IfOk};
+ghost use Rattle.abi_base.specs.declared.fault.NoMemory.TheVariants.{Allocation};
 ghost use Rattle.abi_types.specs.Forms.{no_call};
 
 use abi_base::{List, NoMemory};
@@ -73,7 +74,8 @@ impl Call {
 
     /// The places of a shape.
     pub fn of(alloc: Global, shape: CallShape) -> Result<Call, NoMemory>
-        ensures { IfOk result (λ call. call ≡ shape) }
+        ensures call { IfOk result (λ call. call ≡ shape) }
+        ensures named { IfErr result (λ e. e ≡ Allocation) }
     {
         Ok(Call {
             shape: Some(Box::new(alloc, shape)?),
@@ -102,7 +104,8 @@ impl Call {
 
     /// A copy of the places.
     pub fn copy(&self, alloc: Global) -> Result<Call, NoMemory>
-        ensures { IfOk result (λ copy. copy ≡ self.now) }
+        ensures copy { IfOk result (λ copy. copy ≡ self.now) }
+        ensures named { IfErr result (λ e. e ≡ Allocation) }
     {
         match &self.shape {
             Some(shape) => {

@@ -19,8 +19,8 @@ loop-i-preserved g c =
     IsFilling-pushed (map f items) c.loop-i.i c.loop-i.counts c.count_up.new.counts c.loop-i.numbers.items c.push.new.self.items c.loop-i.places.items c.push-in-loop-i.new.self.items (f c.index-items-i.result) c.in_ok-number.number c.named_place.result inside
     here c.in_ok-number.ensures.number c.loop-i.invariant c.in_ok-number.ensures.counts c.named_place.ensures c.in_ok-push.ensures.items c.in_ok-push-2.ensures.items
 
-pub returns : goal.returns
-returns g c =
+pub returns-clause-lookup : goal.returns-clause-lookup
+returns-clause-lookup g c =
     let f = plain_part g.Ix.Index.number_of in
     let items = c.args.items.now in
     let past : length (map f items) ≤ c.loop-i.i = rw (length-map items f) c.loop-i-test.false in
