@@ -20,12 +20,12 @@ added_some-grows : (vs : List Visit) (o : Option Visit) → Extends vs (added_so
 added_some-grows vs None = Extends-refl vs
 added_some-grows vs (Some v) = Extends-added vs v
 
-entered-grows : (f : ℕ → Option Visit) (n : ℕ) (vs : List Visit) → Extends vs (entered f n vs)
+pub entered-grows : (f : ℕ → Option Visit) (n : ℕ) (vs : List Visit) → Extends vs (entered f n vs)
 unfolding entered
 entered-grows f zero vs = Extends-refl vs
 entered-grows f (suc n) vs = Extends-trans (entered-grows f n vs) (added_some-grows (entered f n vs) (f n))
 
-expanded-grows : (s : Scope) (vs : List Visit) (m : ℕ) (v : Visit) → Extends vs (expanded s vs m v)
+pub expanded-grows : (s : Scope) (vs : List Visit) (m : ℕ) (v : Visit) → Extends vs (expanded s vs m v)
 unfolding expanded
 expanded-grows s vs m v =
     elim (cases_Bool (is_marked s.task v.old v.way)) [
@@ -33,7 +33,7 @@ expanded-grows s vs m v =
       | inr unmarked ↦ rw unmarked (entered-grows (next_visit s m (seen v)) (length (view_at s.task.old v.old).parts) vs)
     ]
 
-take-Extends : (vs ws : List Visit) (m : ℕ) → Extends vs ws → m ≤ length vs → take m vs ≡ take m ws
+pub take-Extends : (vs ws : List Visit) (m : ℕ) → Extends vs ws → m ≤ length vs → take m vs ≡ take m ws
 take-Extends vs ws zero grows le = refl
 take-Extends vs ws (suc m) grows le =
     let v = at_below vs m (omega arith) in

@@ -10,6 +10,7 @@ mod Representatives
 mod Scoped
 mod Sources
 mod Spelled
+mod Spent
 mod Triples
 mod Verdict
 mod Visited

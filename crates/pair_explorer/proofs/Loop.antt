@@ -118,7 +118,7 @@ IsGoing-more s ground vs m broken v at was =
 -- ---- the end
 
 -- the path to each visit, along what led to it
-along_below : (s : Scope) (vs : List Visit) → IsVisited s vs → (k n : ℕ) (v : Visit) → n < k → slice_get vs n ≡ Some v → (path : Path) × Along vs n path
+pub along_below : (s : Scope) (vs : List Visit) → IsVisited s vs → (k n : ℕ) (v : Visit) → n < k → slice_get vs n ≡ Some v → (path : Path) × Along vs n path
 along_below s vs was zero n v lt at = absurd (omega arith)
 along_below s vs was (suc k) n v lt at = go v.parent refl (was.led n v at) (λ m u before at_m. along_below s vs was k m u (omega arith) at_m) where
   go : (parent : Parent) → v.parent ≡ parent → IsLed s vs n (seen v) parent → ((m : ℕ) (u : Visit) → m < n → slice_get vs m ≡ Some u → (path : Path) × Along vs m path) → (path : Path) × Along vs n path

@@ -3,6 +3,8 @@ pub mod ByClass
 pub mod Explorations
 pub mod GraphPairs
 pub mod Keys
+pub mod Limits
 pub mod Routes
 pub mod Scopes
+pub mod Spending
 pub mod Visits

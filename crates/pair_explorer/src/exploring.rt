@@ -1,15 +1,25 @@
 // All triples to which the roots lead, breadth first.
-ghost use Rattle.std.specs.Prelude.{◌≡◌, ◌≤◌, ◌<◌, ◌+◌, ◌++◌, if◌then◌else◌, map, false, length, IfOk, OnOk};
+ghost use Rattle.std.specs.Prelude.{◌≡◌, ◌≤◌, ◌<◌, ◌+◌, ◌++◌, [], if◌then◌else◌, map, false, length, IfOk, IfErr, OnOk};
+ghost use Rattle.abi_base.specs.Budgets.{fresh};
+ghost use Rattle.abi_base.specs.declared.fault.NoMemory.TheVariants.{Allocation};
+ghost use Rattle.abi_base.specs.declared.limit.Limit.TheVariants.{Pairs, PairParts, Breaks};
+ghost use Rattle.abi_base.specs.Outcome.{OnLimit};
+ghost use Rattle.pair_rules.specs.Weights.{pair_weight, weight_units};
 ghost use Rattle.pair_explorer.specs.Adding.{expanded};
 ghost use Rattle.pair_explorer.specs.Explorations.{IsExploration, compared_count, is_compared, most_triples, visit_breaks};
 ghost use Rattle.pair_explorer.specs.GraphPairs.{scope_of};
+ghost use Rattle.pair_explorer.specs.Limits.{AreWithin, ExplorationPasses, break_count_at, types_of, weight_at};
 ghost use Rattle.pair_explorer.specs.Scopes.{AreGraphs, HasNodes, IsScope};
+ghost use Rattle.pair_explorer.specs.Spending.{IsCounted, IsOf, Takes, ExpansionPasses, WorkPasses};
+ghost use Rattle.pair_explorer.specs.Visits.{seen};
 
 use crate::graph_pair::{GraphPair, add_partners, add_roots, is_marked};
-use crate::visits::{Visit, VisitLimits, Visits};
-use abi_base::{List, NoMemory};
+use crate::reached::Reached;
+use crate::visits::{Visit, Visits};
+use abi_base::{Budget, Limit, List, NoMemory};
+use abi_types::{NewIx, OldIx, View};
 use pair_rules::laws::steps_lead_to_nodes;
-use pair_rules::{Broken, Comparison, PartBudget, Steps};
+use pair_rules::{Broken, Comparison, Steps, part_budget, take_parts};
 use std::alloc::Global;
 use std::sync::ledger::Ledger;
 
@@ -22,30 +32,59 @@ pub struct Explored {
     pub breaks: List<(usize, Broken)>,
 }
 
-// The limit on visits: a number for each type of both libraries, plus a constant. In libraries built from one source a type meets
-// itself in two ways at most. But two rings of types whose lengths have no common factor meet in all pairs, so a small file can ask
-// for very many visits.
-const VISITS_A_TYPE: usize = 5;
+// The parts of the types that are compared, and the rules that these break. In libraries built from one source a type meets itself
+// in two ways at most. But two rings of types whose lengths have no common factor meet in all pairs, so a small file can ask for very
+// many comparisons.
+#[derive(Drop)]
+struct Work {
+    parts: Budget,
+    broken: Budget,
+}
 
-const VISITS_AT_LEAST: usize = 262_144;
+impl Work {
+    // Takes the parts of two types that are compared, and the rules that they break.
+    fn take(&mut self, old: &View<OldIx>, new: &View<NewIx>, breaks: usize) -> Result<(), NoMemory>
+        requires parts { self.old.parts.limit ≡ PairParts }
+        requires broken { self.old.broken.limit ≡ Breaks }
+        ensures parts { OnOk result (Takes self.old.parts self.new.parts (pair_weight old.now new.now)) }
+        ensures broken { OnOk result (Takes self.old.broken self.new.broken breaks) }
+        ensures past { IfErr result (λ e. OnLimit e (WorkPasses self.old.parts self.old.broken (pair_weight old.now new.now) breaks)) }
+    {
+        take_parts(&mut self.parts, old, new)?;
+        self.broken.take(breaks)?;
+        Ok(())
+    }
+}
 
-// The limit on broken rules: a number for each type of both libraries, plus a constant. Where each type of a library is changed, few
-// types break more than two rules.
-const BREAKS_A_TYPE: usize = 4;
+// What was explored so far, within the limits.
+#[derive(Drop)]
+struct Exploration {
+    reached: Reached,
+    breaks: List<(usize, Broken)>,
+    work: Work,
+}
 
-const BREAKS_AT_LEAST: usize = 1_048_576;
-
-// The limits on an exploration of two graphs.
-fn limits_of(ground: &GraphPair) -> VisitLimits {
-    let types = ground.old.len().saturating_add(ground.new.len());
-    VisitLimits {
-        visits: types
-            .saturating_mul(VISITS_A_TYPE)
-            .saturating_add(VISITS_AT_LEAST),
-        parts: PartBudget::between(ground.old, ground.new),
-        breaks: types
-            .saturating_mul(BREAKS_A_TYPE)
-            .saturating_add(BREAKS_AT_LEAST),
+impl Exploration {
+    // Nothing yet.
+    fn of(alloc: Global, ground: &GraphPair) -> Exploration
+        ensures visits { result.reached.visits ≡ [] }
+        ensures breaks { result.breaks ≡ [] }
+        ensures pairs { result.reached.pairs ≡ fresh Pairs (types_of (scope_of ground.now)) }
+        ensures parts { result.work.parts ≡ fresh PairParts (weight_units ground.now.old.now ground.now.new.now) }
+        ensures broken { result.work.broken ≡ fresh Breaks (types_of (scope_of ground.now)) }
+    {
+        let types = ground.old.len().saturating_add(ground.new.len());
+        Exploration {
+            reached: Reached {
+                visits: Visits::new(alloc),
+                pairs: Budget::of_many(Limit::Pairs, types),
+            },
+            breaks: List::new(alloc),
+            work: Work {
+                parts: part_budget(ground.old, ground.new),
+                broken: Budget::of_many(Limit::Breaks, types),
+            },
+        }
     }
 }
 
@@ -55,7 +94,8 @@ fn add_breaks(
     number: usize,
     found: &[Broken],
 ) -> Result<(), NoMemory>
-    ensures { OnOk result (list.new ≡ list.old ++ map (λ broken. (number, broken)) found.now) }
+    ensures added { OnOk result (list.new ≡ list.old ++ map (λ broken. (number, broken)) found.now) }
+    ensures named { IfErr result (λ e. e ≡ Allocation) }
 {
     for broken in found {
         list.push((number, *broken))?;
@@ -68,7 +108,7 @@ fn add_breaks(
 fn expand<L: Ledger>(
     alloc: Global,
     ground: &GraphPair,
-    explored: &mut Explored,
+    explored: &mut Exploration,
     number: usize,
     visit: &Visit,
     steps: &mut Steps<L>,
@@ -77,9 +117,16 @@ fn expand<L: Ledger>(
     requires graphs { AreGraphs (scope_of ground.now) }
     requires old { visit.now.old < length ground.now.old.now }
     requires new { visit.now.new < length ground.now.new.now }
-    ensures visits { OnOk result (explored.new.visits ≡ expanded (scope_of ground.now) explored.old.visits number visit.now) }
+    requires counted { IsCounted (scope_of ground.now) explored.old.reached.visits explored.old.reached.pairs }
+    requires parts { IsOf PairParts explored.old.work.parts }
+    requires broken { IsOf Breaks explored.old.work.broken }
+    ensures visits { OnOk result (explored.new.reached.visits ≡ expanded (scope_of ground.now) explored.old.reached.visits number visit.now) }
     ensures breaks { OnOk result (explored.new.breaks ≡ explored.old.breaks ++ visit_breaks (scope_of ground.now).task number visit.now) }
     ensures cost { steps.new ≡ steps.old + (if is_compared (scope_of ground.now).task visit.now then 1 else 0) }
+    ensures counted { OnOk result (IsCounted (scope_of ground.now) explored.new.reached.visits explored.new.reached.pairs) }
+    ensures parts { OnOk result (Takes explored.old.work.parts explored.new.work.parts (weight_at (scope_of ground.now).task (seen visit.now))) }
+    ensures broken { OnOk result (Takes explored.old.work.broken explored.new.work.broken (break_count_at (scope_of ground.now).task (seen visit.now))) }
+    ensures past { IfErr result (λ e. OnLimit e (ExpansionPasses (scope_of ground.now) explored.old.reached.visits number visit.now explored.old.work.parts explored.old.work.broken)) }
 {
     if is_marked(ground, visit.old, visit.way) {
         return Ok(());
@@ -87,17 +134,17 @@ fn expand<L: Ledger>(
     let old = ground.old.view(visit.old);
     let new = ground.new.view(visit.new);
     let found = Comparison::of(alloc, old, new, steps)?;
-    explored.visits.take_parts(old, new)?;
-    explored.visits.take_breaks(found.breaks.as_slice().len())?;
+    explored.work.take(old, new, found.breaks.as_slice().len())?;
     add_breaks(&mut explored.breaks, number, found.breaks.as_slice())?;
     let matches = found.matches.as_slice();
-    add_partners(ground, &mut explored.visits, number, visit, matches)
+    add_partners(ground, &mut explored.reached, number, visit, matches)?;
+    Ok(())
 }
 
 /// Explores all triples to which the roots lead, over the representatives of classes. Returns them with the first path to each, and
 /// the broken rules of those whose old node is unmarked at its way. The classes are those of the two graphs; `is_scope` says what
-/// the roots and the marks must satisfy. It takes one step for each visit whose types are compared. Past the limit on visits or
-/// compared parts it returns `NoMemory`.
+/// the roots and the marks must satisfy. It takes one step for each visit whose types are compared. It fails where an allocation does,
+/// and where the visits, their parts or their breaks are more than the table of limits allows for the types of both libraries.
 pub fn explore<L: Ledger>(
     alloc: Global,
     ground: &GraphPair,
@@ -109,22 +156,24 @@ pub fn explore<L: Ledger>(
     ensures steps { IfOk result (λ e. steps.new ≡ steps.old + compared_count (scope_of ground.now).task e.visits) }
     ensures cost { IfOk result (λ e. steps.new ≤ steps.old + length e.visits) }
     ensures bound { steps.new ≤ steps.old + most_triples (scope_of ground.now) }
+    ensures within { IfOk result (λ e. AreWithin (scope_of ground.now) (map seen e.visits)) }
+    ensures past { IfErr result (λ e. OnLimit e (ExplorationPasses (scope_of ground.now))) }
 {
     steps_lead_to_nodes();
     ground.old.known();
     ground.new.known();
     ground.old_classes.known();
     ground.new_classes.known();
-    let mut explored = Explored {
-        visits: Visits::new(alloc, limits_of(ground)),
-        breaks: List::new(alloc),
-    };
-    add_roots(ground, &mut explored.visits)?;
+    let mut explored = Exploration::of(alloc, ground);
+    add_roots(ground, &mut explored.reached)?;
     let mut number = 0;
-    'list: while number < explored.visits.len() {
-        let visit = explored.visits.visit(number);
+    'list: while number < explored.reached.visits.len() {
+        let visit = explored.reached.visits.visit(number);
         expand(alloc, ground, &mut explored, number, &visit, steps)?;
         number += 1;
     }
-    Ok(explored)
+    Ok(Explored {
+        visits: explored.reached.visits,
+        breaks: explored.breaks,
+    })
 }

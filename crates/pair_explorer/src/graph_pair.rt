@@ -1,5 +1,6 @@
 // The input of an exploration, and how one triple leads to others.
-ghost use Rattle.std.specs.Prelude.{◌≡◌, ◌<◌, length, false, Some, OnOk};
+ghost use Rattle.std.specs.Prelude.{◌≡◌, ◌<◌, length, false, Some, OnOk, IfErr, IfSome};
+ghost use Rattle.abi_base.specs.Outcome.{OnLimit};
 ghost use Rattle.abi_types.specs.Graphs.{view_at};
 ghost use Rattle.pair_rules.specs.Comparisons as comparisons;
 ghost use Rattle.pair_rules.specs.Steps as steps;
@@ -8,9 +9,11 @@ ghost use Rattle.pair_explorer.specs.Adding.{entered};
 ghost use Rattle.pair_explorer.specs.Adding as adding;
 ghost use Rattle.pair_explorer.specs.GraphPairs.{scope_of};
 ghost use Rattle.pair_explorer.specs.Scopes.{HasNodes, AreGraphs};
+ghost use Rattle.pair_explorer.specs.Spending.{IsCounted, VisitsPass};
 
+use crate::reached::Reached;
 use crate::roots::Root;
-use crate::visits::{Parent, Visit, Visits};
+use crate::visits::{Parent, Visit};
 use abi_base::NoMemory;
 use abi_types::{Graph, Index, Marks, NewIx, OldIx, Way};
 use pair_rules::laws::steps_lead_to_nodes;
@@ -54,7 +57,8 @@ pub fn is_marked(ground: &GraphPair, node: OldIx, way: Way) -> bool
 fn root_visit(ground: &GraphPair, k: usize) -> Visit
     requires inside { k < length ground.now.roots.now }
     requires nodes { HasNodes (scope_of ground.now) }
-    ensures { Some result ≡ adding.root_visit (scope_of ground.now) k }
+    ensures visit { Some result ≡ adding.root_visit (scope_of ground.now) k }
+    ensures inside { (result.old < length ground.now.old.now) × (result.new < length ground.now.new.now) }
 {
     let root = ground.roots[k];
     Visit {
@@ -68,13 +72,16 @@ fn root_visit(ground: &GraphPair, k: usize) -> Visit
 }
 
 /// Adds the visits of the roots.
-pub fn add_roots(ground: &GraphPair, visits: &mut Visits) -> Result<(), NoMemory>
-    requires { HasNodes (scope_of ground.now) }
-    ensures { OnOk result (visits.new ≡ entered (adding.root_visit (scope_of ground.now)) (length ground.now.roots.now) visits.old) }
+pub(crate) fn add_roots(ground: &GraphPair, reached: &mut Reached) -> Result<(), NoMemory>
+    requires nodes { HasNodes (scope_of ground.now) }
+    requires counted { IsCounted (scope_of ground.now) reached.old.visits reached.old.pairs }
+    ensures visits { OnOk result (reached.new.visits ≡ entered (adding.root_visit (scope_of ground.now)) (length ground.now.roots.now) reached.old.visits) }
+    ensures counted { OnOk result (IsCounted (scope_of ground.now) reached.new.visits reached.new.pairs) }
+    ensures past { IfErr result (λ e. OnLimit e (VisitsPass (scope_of ground.now) (entered (adding.root_visit (scope_of ground.now)) (length ground.now.roots.now) reached.old.visits))) }
 {
     for k in 0..ground.roots.len() {
         let visit = root_visit(ground, k);
-        visits.add(&visit)?;
+        reached.add(&visit)?;
     }
     Ok(())
 }
@@ -94,7 +101,8 @@ fn next_visit(
     requires new { visit.now.new < length ground.now.new.now }
     requires matches { matches.now ≡ comparisons.matches (view_at ground.now.old.now visit.now.old) (view_at ground.now.new.now visit.now.new) }
     requires inside { i < length (view_at ground.now.old.now visit.now.old).parts }
-    ensures { result ≡ adding.next_visit (scope_of ground.now) number (seen visit.now) i }
+    ensures visit { result ≡ adding.next_visit (scope_of ground.now) number (seen visit.now) i }
+    ensures inside { IfSome result (λ v. (v.old < length ground.now.old.now) × (v.new < length ground.now.new.now)) }
 {
     steps_lead_to_nodes();
     let old = ground.old.view(visit.old);
@@ -121,9 +129,9 @@ fn parts_len(ground: &GraphPair, visit: &Visit) -> usize
 
 /// Adds all visits to which a visit leads; `matches` are the matching parts that its comparison found. Its old node is unmarked at
 /// its way.
-pub fn add_partners(
+pub(crate) fn add_partners(
     ground: &GraphPair,
-    visits: &mut Visits,
+    reached: &mut Reached,
     number: usize,
     visit: &Visit,
     matches: &[Option<usize>],
@@ -134,11 +142,14 @@ pub fn add_partners(
     requires old { visit.now.old < length ground.now.old.now }
     requires new { visit.now.new < length ground.now.new.now }
     requires matches { matches.now ≡ comparisons.matches (view_at ground.now.old.now visit.now.old) (view_at ground.now.new.now visit.now.new) }
-    ensures { OnOk result (visits.new ≡ entered (adding.next_visit (scope_of ground.now) number (seen visit.now)) (length (view_at ground.now.old.now visit.now.old).parts) visits.old) }
+    requires counted { IsCounted (scope_of ground.now) reached.old.visits reached.old.pairs }
+    ensures visits { OnOk result (reached.new.visits ≡ entered (adding.next_visit (scope_of ground.now) number (seen visit.now)) (length (view_at ground.now.old.now visit.now.old).parts) reached.old.visits) }
+    ensures counted { OnOk result (IsCounted (scope_of ground.now) reached.new.visits reached.new.pairs) }
+    ensures past { IfErr result (λ e. OnLimit e (VisitsPass (scope_of ground.now) (entered (adding.next_visit (scope_of ground.now) number (seen visit.now)) (length (view_at ground.now.old.now visit.now.old).parts) reached.old.visits))) }
 {
     for i in 0..parts_len(ground, visit) {
         if let Some(next) = next_visit(ground, number, visit, matches, i) {
-            visits.add(&next)?;
+            reached.add(&next)?;
         }
     }
     Ok(())

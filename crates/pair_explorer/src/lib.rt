@@ -5,6 +5,7 @@
 mod exploring;
 mod graph_pair;
 pub mod laws;
+mod reached;
 mod roots;
 mod routes;
 mod scopes;

@@ -1,14 +1,18 @@
 // The triples reached so far, in a search tree, so that one is found without a scan.
-ghost use Rattle.std.specs.Prelude.{◌≡◌, ◌<◌, List, [], not, length, slice_get, Some, OnOk, OnErr, IfOk};
+ghost use Rattle.std.specs.Prelude.{◌≡◌, ◌<◌, List, [], not, length, slice_get, Some, OnOk, OnErr, IfOk, IfErr};
+ghost use Rattle.abi_base.specs.declared.fault.NoMemory.TheVariants.{Past};
+ghost use Rattle.abi_base.specs.declared.limit.Limit.TheVariants.{Pairs};
+ghost use Rattle.abi_base.specs.Outcome.{OnLimit};
 ghost use Rattle.pair_explorer.specs.declared.visits.Visit.{Visit as PlainVisit};
 ghost use Rattle.pair_explorer.specs.Adding.{added};
 ghost use Rattle.pair_explorer.specs.Keys.{AreKnown};
 ghost use Rattle.pair_explorer.specs.Keys as spec;
+ghost use Rattle.pair_explorer.specs.Spending.{HasWideNumber};
 ghost use Rattle.pair_explorer.specs.Visits.{has, seen};
 
-use abi_base::{Limit, NoMemory, taken};
-use abi_types::{Index, NewIx, OldIx, View, Way};
-use pair_rules::{PartBudget, Triple};
+use abi_base::{Limit, NoMemory};
+use abi_types::{Index, NewIx, OldIx, Way};
+use pair_rules::Triple;
 use std::alloc::Global;
 use std::collections::BTreeSet;
 use std::marker::Model;
@@ -48,17 +52,6 @@ impl Visit {
     }
 }
 
-/// The limits on an exploration.
-#[derive(Drop)]
-pub(crate) struct VisitLimits {
-    /// How many visits there may be.
-    pub(crate) visits: usize,
-    /// How many parts of types may be compared.
-    pub(crate) parts: PartBudget,
-    /// How many broken rules there may be.
-    pub(crate) breaks: usize,
-}
-
 /// The visits of an exploration, each of a different triple, in the order in which they were made. Contracts see them as a list.
 #[derive(Drop)]
 pub struct Visits {
@@ -67,8 +60,6 @@ pub struct Visits {
     // The keys of their triples. A file decides which types meet, and could make the hash codes of their triples collide, so they
     // stand in a search tree.
     known: BTreeSet<(u32, u32, bool)>,
-    // The limit on visits, and what may still be compared and broken.
-    limits: VisitLimits,
 }
 
 impl Model for Visits {
@@ -84,21 +75,11 @@ impl Model for Visits {
     ghost invariant = { λ visits. AreKnown visits.known visits.list.items };
 }
 
-// Fails once the limit on visits is reached.
-fn ask_visit(count: usize, most: usize) -> Result<(), NoMemory>
-    ensures { OnOk result (count < most) }
-{
-    if count < most {
-        Ok(())
-    } else {
-        Err(NoMemory::Past(Limit::Pairs))
-    }
-}
-
 // The key of a visit's triple, in few bytes, since there may be very many. It fails where the number of a type takes more than 32
 // bits, which no file that can be read has.
 fn key_of(visit: &Visit) -> Result<(u32, u32, bool), NoMemory>
-    ensures { IfOk result (λ key. key ≡ spec.key_of (seen visit.now)) }
+    ensures key { IfOk result (λ key. key ≡ spec.key_of (seen visit.now)) }
+    ensures past { IfErr result (λ e. (e ≡ Past Pairs) × HasWideNumber visit.now) }
 {
     let Ok(old) = u32::try_from(visit.old.number()) else {
         return Err(NoMemory::Past(Limit::Pairs));
@@ -114,6 +95,7 @@ fn put(known: &mut BTreeSet<(u32, u32, bool)>, visit: &Visit) -> Result<bool, No
     ensures is_new { IfOk result (λ is_new. (visits : List PlainVisit) → AreKnown known.old visits → is_new ≡ not (has visits (seen visit.now))) }
     ensures known { OnOk result ((visits : List PlainVisit) → AreKnown known.old visits → AreKnown known.new (added visits visit.now)) }
     ensures err { OnErr result ((visits : List PlainVisit) → AreKnown known.old visits → AreKnown known.new visits) }
+    ensures past { IfErr result (λ e. OnLimit e (λ l. (l ≡ Pairs) × HasWideNumber visit.now)) }
 {
     let key = key_of(visit)?;
     let is_new = known.insert(key)?;
@@ -121,14 +103,13 @@ fn put(known: &mut BTreeSet<(u32, u32, bool)>, visit: &Visit) -> Result<bool, No
 }
 
 impl Visits {
-    /// An empty list with the limits on visits and on compared parts. It takes no memory yet.
-    pub(crate) fn new(alloc: Global, limits: VisitLimits) -> Visits
+    /// An empty list. It takes no memory yet.
+    pub(crate) fn new(alloc: Global) -> Visits
         ensures { result ≡ [] }
     {
         Visits {
             list: Vec::new(alloc),
             known: BTreeSet::new(alloc),
-            limits,
         }
     }
 
@@ -157,35 +138,16 @@ impl Visits {
         self.get(number).unwrap()
     }
 
-    /// Adds a visit if its triple is new. Returns `NoMemory` once the limit on visits is reached.
+    /// Adds a visit if its triple is new.
     pub(crate) fn add(&mut self, visit: &Visit) -> Result<(), NoMemory>
-        ensures { OnOk result (self.new ≡ added self.old visit.now) }
+        ensures added { OnOk result (self.new ≡ added self.old visit.now) }
+        ensures past { IfErr result (λ e. OnLimit e (λ l. (l ≡ Pairs) × HasWideNumber visit.now)) }
     {
-        ask_visit(self.list.len(), self.limits.visits)?;
         // This room is reserved first, so that nothing can fail once the key is in the set.
         self.list.reserve(1)?;
         if put(&mut self.known, visit)? {
             self.list.push(*visit)?;
         }
-        Ok(())
-    }
-
-    /// Counts the parts of two types as compared. Returns `NoMemory` where fewer may still be.
-    pub(crate) fn take_parts(
-        &mut self,
-        old: &View<OldIx>,
-        new: &View<NewIx>,
-    ) -> Result<(), NoMemory>
-        ensures { self.new ≡ self.old }
-    {
-        self.limits.parts.take(old, new)
-    }
-
-    /// Counts this many broken rules. Returns `NoMemory` where fewer may still be.
-    pub(crate) fn take_breaks(&mut self, breaks: usize) -> Result<(), NoMemory>
-        ensures { self.new ≡ self.old }
-    {
-        self.limits.breaks = taken(Limit::Breaks, self.limits.breaks, breaks)?;
         Ok(())
     }
 }

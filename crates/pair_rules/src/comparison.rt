@@ -1,5 +1,6 @@
 // The comparison of two types: the rules that they break, and the types to compare next.
-ghost use Rattle.std.specs.Prelude.{◌≡◌, ◌<◌, ◌+◌, length, IfOk, IfSome};
+ghost use Rattle.std.specs.Prelude.{◌≡◌, ◌<◌, ◌+◌, length, IfOk, IfErr, IfSome};
+ghost use Rattle.abi_base.specs.declared.fault.NoMemory.TheVariants.{Allocation};
 ghost use Rattle.pair_rules.specs.Comparisons.{compared_match};
 ghost use Rattle.pair_rules.specs.Comparisons as comparisons;
 ghost use Rattle.pair_rules.specs.Steps as steps_spec;
@@ -29,7 +30,8 @@ fn matches_of(
     old: &View<OldIx>,
     new: &View<NewIx>,
 ) -> Result<List<Option<usize>>, NoMemory>
-    ensures { IfOk result (λ list. list ≡ comparisons.matches old.now new.now) }
+    ensures matches { IfOk result (λ list. list ≡ comparisons.matches old.now new.now) }
+    ensures named { IfErr result (λ e. e ≡ Allocation) }
 {
     let mut list = List::new(alloc);
     if !are_compared(old, new) {
@@ -100,6 +102,7 @@ impl Comparison {
         ensures breaks { IfOk result (λ c. c.breaks ≡ type_rules.breaks old.now new.now) }
         ensures matches { IfOk result (λ c. c.matches ≡ comparisons.matches old.now new.now) }
         ensures step { steps.new ≡ steps.old + 1 }
+        ensures named { IfErr result (λ e. e ≡ Allocation) }
     {
         steps.tick();
         let matches = matches_of(alloc, old, new)?;
@@ -117,6 +120,7 @@ pub fn breaks<L: Ledger>(
 ) -> Result<List<Broken>, NoMemory>
     ensures breaks { IfOk result (λ list. list ≡ type_rules.breaks old.now new.now) }
     ensures step { steps.new ≡ steps.old + 1 }
+    ensures named { IfErr result (λ e. e ≡ Allocation) }
 {
     let comparison = Comparison::of(alloc, old, new, steps)?;
     Ok(comparison.breaks)

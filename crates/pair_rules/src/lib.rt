@@ -7,15 +7,15 @@ mod comparison;
 mod exports;
 pub mod laws;
 mod matching;
-mod part_budget;
 mod rules;
 mod steps;
 mod triple;
+mod weights;
 
 pub use comparison::{Comparison, breaks, next_of};
 pub use exports::export_breaks;
 pub use matching::{after, match_of, number_of, partner, partner_at};
-pub use part_budget::PartBudget;
 pub use rules::{Broken, bit_at, holds, params_of, value_at, width_at};
 pub use steps::Steps;
 pub use triple::Triple;
+pub use weights::{part_budget, take_parts};

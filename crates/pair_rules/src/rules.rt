@@ -1,6 +1,7 @@
 // The rules on two types.
-ghost use Rattle.std.specs.Prelude.{◌≡◌, ◌<◌, ◌+◌, ◌++◌, ◌↔◌, ℕ, true, [], List, Option, length, take, map, filter, slice_index_or, count_by, not, IsTrue, OnOk, IfOk};
+ghost use Rattle.std.specs.Prelude.{◌≡◌, ◌<◌, ◌+◌, ◌++◌, ◌↔◌, ℕ, true, [], List, Option, length, take, map, filter, slice_index_or, count_by, not, IsTrue, OnOk, IfOk, IfErr};
 ghost use Rattle.std.specs.List.{range_with_len};
+ghost use Rattle.abi_base.specs.declared.fault.NoMemory.TheVariants.{Allocation};
 ghost use Rattle.abi_types.specs.Forms as forms;
 ghost use Rattle.abi_types.specs.Graphs.{part_at};
 ghost use Rattle.pair_rules.specs.Comparisons as comparisons;
@@ -251,7 +252,8 @@ fn push_parts(
     matches: &[Option<usize>],
 ) -> Result<(), NoMemory>
     requires { matches.now ≡ map (matching_spec.match_of old.now new.now) (range_with_len 0 (length old.now.parts)) }
-    ensures { OnOk result (list.new ≡ list.old ++ map (broken_at rule) (filter (type_rules.breaks_part rule old.now new.now) (range_with_len 0 (length old.now.parts)))) }
+    ensures appended { OnOk result (list.new ≡ list.old ++ map (broken_at rule) (filter (type_rules.breaks_part rule old.now new.now) (range_with_len 0 (length old.now.parts)))) }
+    ensures named { IfErr result (λ e. e ≡ Allocation) }
 {
     'walk: for (part, found) in matches.iter().enumerate() {
         if breaks_part(rule, old, new, part, *found) {
@@ -272,7 +274,8 @@ fn push_broken(
 ) -> Result<(), NoMemory>
     requires matches { matches.now ≡ comparisons.matches old.now new.now }
     requires asked { type_rules.speaks_of_parts rule ≡ true → type_rules.are_compared old.now new.now ≡ true }
-    ensures { OnOk result (list.new ≡ list.old ++ type_rules.broken old.now new.now rule) }
+    ensures appended { OnOk result (list.new ≡ list.old ++ type_rules.broken old.now new.now rule) }
+    ensures named { IfErr result (λ e. e ≡ Allocation) }
 {
     if speaks_of_parts(rule) {
         return push_parts(list, rule, old, new, matches);
@@ -292,7 +295,8 @@ pub(crate) fn breaks_by(
     matches: &[Option<usize>],
 ) -> Result<List<Broken>, NoMemory>
     requires { matches.now ≡ comparisons.matches old.now new.now }
-    ensures { IfOk result (λ list. list ≡ type_rules.breaks old.now new.now) }
+    ensures breaks { IfOk result (λ list. list ≡ type_rules.breaks old.now new.now) }
+    ensures named { IfErr result (λ e. e ≡ Allocation) }
 {
     let mut list = List::new(alloc);
     'rules: for rule in rules_asked(old, new) {

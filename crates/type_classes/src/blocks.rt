@@ -1,5 +1,6 @@
 // A partition of numbers into classes, refined by marks.
-ghost use Rattle.std.specs.Prelude.{◌≡◌, ◌≢◌, ◌≤◌, ◌<◌, ◌+◌, ◌==◌, ◌||◌, ◌↔◌, ◌⊎◌, ℕ, nat_lt, nat_le, ◌&&◌, if◌then◌else◌, length, IfOk, OnOk, IsTrue, Contains};
+ghost use Rattle.std.specs.Prelude.{◌≡◌, ◌≢◌, ◌≤◌, ◌<◌, ◌+◌, ◌==◌, ◌||◌, ◌↔◌, ◌⊎◌, ℕ, nat_lt, nat_le, ◌&&◌, if◌then◌else◌, length, IfOk, OnOk, IsTrue, Contains, IfErr};
+ghost use Rattle.abi_base.specs.declared.fault.NoMemory.TheVariants.{Allocation};
 ghost use Rattle.type_classes.specs.Blocks.{at, block_at, first_at, middle_at, end_at, len_of, count_of, class_in, is_marked, AreBlocks, ListsMarks, HasNoMarks, KeepsTogether, IsWhole, IsSplitAt, IsAdvanced, IsSwapped, IsSplitOf};
 
 use abi_base::NoMemory;
@@ -71,6 +72,7 @@ impl Blocks {
         ensures listed { IfOk result ListsMarks }
         ensures unmarked { IfOk result HasNoMarks }
         ensures classes { IfOk result (λ b. (x : ℕ) → x < len → class_in b x ≡ 0) }
+        ensures named { IfErr result (λ e. e ≡ Allocation) }
     {
         let mut order = Vec::with_capacity(alloc, len)?;
         let mut place = Vec::with_capacity(alloc, len)?;
@@ -134,6 +136,7 @@ impl Blocks {
         ensures count { OnOk result (count_of self.new ≡ count_of self.old) }
         ensures classes { OnOk result ((x : ℕ) → class_in self.new x ≡ class_in self.old x) }
         ensures marks { OnOk result ((x : ℕ) → x < len_of self.old → is_marked self.new x ≡ (is_marked self.old x || x == number)) }
+        ensures named { IfErr result (λ e. e ≡ Allocation) }
     {
         let class = self.class[number];
         let place = self.place[number];
@@ -157,6 +160,7 @@ impl Blocks {
         ensures kept { OnOk result ((c : ℕ) → Contains self.old.touched.items c → Contains self.new.touched.items c) }
         ensures listed { OnOk result (middle_at self.old.blocks.items class ≡ first_at self.old.blocks.items class → Contains self.new.touched.items class) }
         ensures inside { OnOk result ((c : ℕ) → Contains self.new.touched.items c → Contains self.old.touched.items c ⊎ (c ≡ class)) }
+        ensures named { IfErr result (λ e. e ≡ Allocation) }
     {
         let block = self.blocks[class];
         if block.middle == block.first {
@@ -227,7 +231,8 @@ impl Blocks {
         requires blocks { AreBlocks self.old }
         requires inside { class < count_of self.old }
         requires parted { IsWhole (block_at self.old.blocks.items class) → ⊥ }
-        ensures { OnOk result (IsSplitAt self.old self.new class) }
+        ensures split { OnOk result (IsSplitAt self.old self.new class) }
+        ensures named { IfErr result (λ e. e ≡ Allocation) }
     {
         let number = self.blocks.len();
         let (kept, parted) = halves(self.blocks[class]);
@@ -241,7 +246,8 @@ impl Blocks {
     fn split_class(&mut self, class: usize) -> Result<(), NoMemory>
         requires blocks { AreBlocks self.old }
         requires inside { class < count_of self.old }
-        ensures { OnOk result (IsSplitAt self.old self.new class) }
+        ensures split { OnOk result (IsSplitAt self.old self.new class) }
+        ensures named { IfErr result (λ e. e ≡ Allocation) }
     {
         if is_whole(self.blocks[class]) {
             self.unmark(class);
@@ -258,6 +264,7 @@ impl Blocks {
         ensures listed { OnOk result (ListsMarks self.new) }
         ensures unmarked { OnOk result (HasNoMarks self.new) }
         ensures keeps { OnOk result (KeepsTogether self.old self.new) }
+        ensures named { IfErr result (λ e. e ≡ Allocation) }
     {
         'touched: while let Some(class) = self.touched.pop() {
             self.split_class(class)?;

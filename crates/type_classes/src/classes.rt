@@ -1,6 +1,7 @@
 // Classes of the nodes of a graph.
-ghost use Rattle.std.specs.Prelude.{◌≡◌, ◌<◌, ◌↔◌, ℕ, length, IfOk};
+ghost use Rattle.std.specs.Prelude.{◌≡◌, ◌<◌, ◌↔◌, ℕ, length, IfOk, IfErr};
 ghost use Rattle.std.specs.List.{range_with_len};
+ghost use Rattle.abi_base.specs.declared.fault.NoMemory.TheVariants.{Allocation};
 ghost use Rattle.type_classes.specs.Classes.{rep_of, AreSound, AreCoarsest};
 
 use crate::blocks::Blocks;
@@ -59,6 +60,7 @@ pub fn plain<'g, 'a, Ix: Index>(
 ) -> Result<Classes<'g, 'a, Ix>, NoMemory>
     ensures graph { IfOk result (λ c. c.nodes ≡ graph.now) }
     ensures alone { IfOk result (λ c. (i : ℕ) → rep_of c i ≡ i) }
+    ensures named { IfErr result (λ e. e ≡ Allocation) }
 {
     let mut reps = Vec::with_capacity(alloc, graph.len())?;
     for number in 0..graph.len() {
@@ -74,6 +76,7 @@ pub fn alike<'g, 'a, Ix: Index>(
 ) -> Result<Classes<'g, 'a, Ix>, NoMemory>
     ensures graph { IfOk result (λ c. c.nodes ≡ graph.now) }
     ensures coarsest { IfOk result AreCoarsest }
+    ensures named { IfErr result (λ e. e ≡ Allocation) }
 {
     graph.known();
     let mut blocks = Blocks::one(alloc, graph.len())?;
@@ -93,6 +96,7 @@ pub fn alike_beside<'g, 'a, Ix: Index, Jx: Index>(
     requires { AreCoarsest known.now }
     ensures graph { IfOk result (λ c. c.nodes ≡ graph.now) }
     ensures coarsest { IfOk result AreCoarsest }
+    ensures named { IfErr result (λ e. e ≡ Allocation) }
 {
     if !are_same(known.graph, graph) {
         return alike(alloc, graph);

@@ -1,6 +1,7 @@
 // The edges of a graph: which parts name which nodes.
-ghost use Rattle.std.specs.Prelude.{◌≡◌, ◌<◌, ◌↔◌, ◌⊎◌, ◌+◌, ℕ, [], length, Some, IfOk, OnOk, Contains};
+ghost use Rattle.std.specs.Prelude.{◌≡◌, ◌<◌, ◌↔◌, ◌⊎◌, ◌+◌, ℕ, [], length, Some, IfOk, OnOk, Contains, IfErr};
 ghost use Rattle.std.specs.List.Sorted.{IsNonDecreasingBy};
+ghost use Rattle.abi_base.specs.declared.fault.NoMemory.TheVariants.{Allocation};
 ghost use Rattle.abi_types.specs.Graphs.{IsGraph, to_of};
 ghost use Rattle.abi_types.specs.Parts.{plain_part};
 ghost use Rattle.type_classes.specs.Blocks.{at};
@@ -37,6 +38,7 @@ impl Incoming {
         ensures edges { IfOk result (λ i. i.edges.items ≡ []) }
         ensures count { IfOk result (λ i. node_count i ≡ count) }
         ensures last { IfOk result (λ i. (s : ℕ) → s < count → at i.last.items s ≡ 0) }
+        ensures named { IfErr result (λ e. e ≡ Allocation) }
     {
         let edges = Vec::with_capacity(alloc, room)?;
         let mut last = Vec::with_capacity(alloc, count)?;
@@ -48,7 +50,8 @@ impl Incoming {
     fn add(&mut self, to: usize, part: (usize, usize)) -> Result<(), NoMemory>
         requires linked { AreLinked self.old }
         requires inside { to < node_count self.old }
-        ensures { OnOk result (IsAdded self.old self.new to part) }
+        ensures added { OnOk result (IsAdded self.old self.new to part) }
+        ensures named { IfErr result (λ e. e ≡ Allocation) }
     {
         let edge = Edge {
             to,
@@ -64,7 +67,8 @@ impl Incoming {
     fn push_parts(&self, into: &mut Vec<(usize, usize)>, node: usize) -> Result<(), NoMemory>
         requires linked { AreLinked self.now }
         requires inside { node < node_count self.now }
-        ensures { OnOk result ((e : ℕ × ℕ) → Contains into.new.items e ↔ (Contains into.old.items e ⊎ IsIncoming self.now node e)) }
+        ensures appended { OnOk result ((e : ℕ × ℕ) → Contains into.new.items e ↔ (Contains into.old.items e ⊎ IsIncoming self.now node e)) }
+        ensures named { IfErr result (λ e. e ≡ Allocation) }
     {
         let mut link = self.last[node];
         'edges: while link > 0 {
@@ -88,6 +92,7 @@ fn add_part<Ix: Index>(
     ensures many { OnOk result (node_count incoming.new ≡ node_count incoming.old) }
     ensures pairs { OnOk result ((s : ℕ) (e : ℕ × ℕ) → IsIncoming incoming.new s e
         ↔ (IsIncoming incoming.old s e ⊎ ((to_of (plain_part Ix.number_of part.now) ≡ Some s) × (e ≡ pair)))) }
+    ensures named { IfErr result (λ e. e ≡ Allocation) }
 {
     match part.to() {
         Some(to) => incoming.add(to.number(), pair),
@@ -103,7 +108,8 @@ fn add_parts<Ix: Index>(
 ) -> Result<(), NoMemory>
     requires inside { node < length graph.now }
     requires before { AreIncoming graph.now node incoming.old }
-    ensures { OnOk result (AreIncoming graph.now (node + 1) incoming.new) }
+    ensures added { OnOk result (AreIncoming graph.now (node + 1) incoming.new) }
+    ensures named { IfErr result (λ e. e ≡ Allocation) }
 {
     graph.known();
     let view = graph.view(Ix::of(node));
@@ -128,7 +134,8 @@ fn edge_count<Ix: Index>(graph: &Graph<Ix>) -> usize {
 
 /// For each node of the graph the parts that name it, each by its position and its node.
 pub fn incoming_of<Ix: Index>(alloc: Global, graph: &Graph<Ix>) -> Result<Incoming, NoMemory>
-    ensures { IfOk result (AreIncoming graph.now (length graph.now)) }
+    ensures incoming { IfOk result (AreIncoming graph.now (length graph.now)) }
+    ensures named { IfErr result (λ e. e ≡ Allocation) }
 {
     let mut incoming = Incoming::none(alloc, graph.len(), edge_count(graph))?;
     'nodes: for node in 0..graph.len() {
@@ -145,7 +152,8 @@ fn join(
 ) -> Result<(), NoMemory>
     requires linked { AreLinked incoming.now }
     requires inside { (s : ℕ) → Contains nodes.now s → s < node_count incoming.now }
-    ensures { OnOk result ((e : ℕ × ℕ) → Contains into.new.items e ↔ ((s : ℕ) × Contains nodes.now s × IsIncoming incoming.now s e)) }
+    ensures joined { OnOk result ((e : ℕ × ℕ) → Contains into.new.items e ↔ ((s : ℕ) × Contains nodes.now s × IsIncoming incoming.now s e)) }
+    ensures named { IfErr result (λ e. e ≡ Allocation) }
 {
     into.clear();
     'nodes: for i in 0..nodes.len() {
@@ -164,6 +172,7 @@ pub fn join_incoming(
     requires inside { (s : ℕ) → Contains nodes.now s → s < node_count incoming.now }
     ensures rising { OnOk result (IsNonDecreasingBy key_of into.new.items) }
     ensures pairs { OnOk result ((e : ℕ × ℕ) → Contains into.new.items e ↔ ((s : ℕ) × Contains nodes.now s × IsIncoming incoming.now s e)) }
+    ensures named { IfErr result (λ e. e ≡ Allocation) }
 {
     join(into, incoming, nodes)?;
     into.sort_unstable_by_key(|pair| pair.0);

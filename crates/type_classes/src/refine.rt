@@ -1,5 +1,6 @@
 // Refinement to the coarsest stable classes.
-ghost use Rattle.std.specs.Prelude.{◌≡◌, ◌<◌, ◌≤◌, length, OnOk};
+ghost use Rattle.std.specs.Prelude.{◌≡◌, ◌<◌, ◌≤◌, length, OnOk, IfErr};
+ghost use Rattle.abi_base.specs.declared.fault.NoMemory.TheVariants.{Allocation};
 ghost use Rattle.type_classes.specs.Blocks.{len_of, class_in, AreBlocks, ListsMarks, HasNoMarks};
 ghost use Rattle.type_classes.specs.Refined.{IsRefined};
 
@@ -27,6 +28,7 @@ pub fn refine<Ix: Index>(
     ensures blocks { OnOk result (AreBlocks blocks.new) }
     ensures len { OnOk result (len_of blocks.new ≡ length graph.now) }
     ensures refined { OnOk result (IsRefined graph.now (class_in blocks.new) (λ c. c)) }
+    ensures named { IfErr result (λ e. e ≡ Allocation) }
 {
     graph.known();
     let edges = incoming_of(alloc, graph)?;

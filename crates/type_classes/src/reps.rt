@@ -1,5 +1,6 @@
 // The representatives of classes.
-ghost use Rattle.std.specs.Prelude.{◌≡◌, ◌<◌, ◌≤◌, ℕ, length, IfOk};
+ghost use Rattle.std.specs.Prelude.{◌≡◌, ◌<◌, ◌≤◌, ℕ, length, IfOk, IfErr};
+ghost use Rattle.abi_base.specs.declared.fault.NoMemory.TheVariants.{Allocation};
 ghost use Rattle.type_classes.specs.Blocks.{at, len_of, count_of, class_in, AreBlocks};
 ghost use Rattle.type_classes.specs.Reps.{entry_at, AreOfClasses, IsLowered, AreReps};
 
@@ -11,7 +12,8 @@ use std::alloc::Global;
 // For each class one of its nodes.
 fn first_nodes(alloc: Global, blocks: &Blocks) -> Result<Vec<usize>, NoMemory>
     requires { AreBlocks blocks.now }
-    ensures { IfOk result (λ list. AreOfClasses (len_of blocks.now) (count_of blocks.now) (class_in blocks.now) list.items) }
+    ensures first { IfOk result (λ list. AreOfClasses (len_of blocks.now) (count_of blocks.now) (class_in blocks.now) list.items) }
+    ensures named { IfErr result (λ e. e ≡ Allocation) }
 {
     let mut list = Vec::with_capacity(alloc, blocks.count())?;
     'classes: for class in 0..blocks.count() {
@@ -43,6 +45,7 @@ fn least_nodes<Ix: Index>(
     requires len { len_of blocks.now ≡ length graph.now }
     ensures nodes { IfOk result (λ list. AreOfClasses (length graph.now) (count_of blocks.now) (class_in blocks.now) list.items) }
     ensures least { IfOk result (λ list. (x : ℕ) → x < length graph.now → entry_at graph.now (at list.items (class_in blocks.now x)) ≤ entry_at graph.now x) }
+    ensures named { IfErr result (λ e. e ≡ Allocation) }
 {
     let mut list = first_nodes(alloc, blocks)?;
     'nodes: for node in 0..graph.len() {
@@ -59,7 +62,8 @@ pub fn reps_of<Ix: Index>(
 ) -> Result<Vec<usize>, NoMemory>
     requires blocks { AreBlocks blocks.now }
     requires len { len_of blocks.now ≡ length graph.now }
-    ensures { IfOk result (λ reps. AreReps graph.now (class_in blocks.now) reps.items) }
+    ensures reps { IfOk result (λ reps. AreReps graph.now (class_in blocks.now) reps.items) }
+    ensures named { IfErr result (λ e. e ≡ Allocation) }
 {
     let list = least_nodes(alloc, graph, blocks)?;
     let mut reps = Vec::with_capacity(alloc, graph.len())?;

@@ -1,6 +1,7 @@
 // Nodes of one shape, found by the spellings of shapes.
-ghost use Rattle.std.specs.Prelude.{◌≡◌, ◌<◌, ◌↔◌, ◌⊎◌, ℕ, length, Some, IfOk, OnOk};
+ghost use Rattle.std.specs.Prelude.{◌≡◌, ◌<◌, ◌↔◌, ◌⊎◌, ℕ, length, Some, IfOk, OnOk, IfErr};
 ghost use Rattle.std.specs.List.Sorted.{IsNonDecreasingBy};
+ghost use Rattle.abi_base.specs.declared.fault.NoMemory.TheVariants.{Allocation};
 ghost use Rattle.abi_types.specs.Graphs.{node_at};
 ghost use Rattle.abi_types.specs.ClassLooks.{shape_of};
 ghost use Rattle.type_classes.specs.Splits.{key_of, number_at, HaveSameKeys};
@@ -24,6 +25,7 @@ fn number_of(
     ensures number { IfOk result (λ number. number_in numbers.new spelling.now ≡ Some number) }
     ensures kept { OnOk result ((key : Spelling) (n : ℕ) → number_in numbers.old key ≡ Some n → number_in numbers.new key ≡ Some n) }
     ensures fresh { OnOk result ((key : Spelling) (n : ℕ) → number_in numbers.new key ≡ Some n → (number_in numbers.old key ≡ Some n) ⊎ (AreOneSpelling key spelling.now × (n ≡ fresh))) }
+    ensures named { IfErr result (λ e. e ≡ Allocation) }
 {
     match numbers.get(spelling) {
         Some(number) => return Ok(*number),
@@ -36,7 +38,8 @@ fn number_of(
 
 // For each node the first node with its shape, and the node.
 fn numbered<Ix: Index>(alloc: Global, graph: &Graph<Ix>) -> Result<Vec<(usize, usize)>, NoMemory>
-    ensures { IfOk result (IsNumbered graph.now) }
+    ensures numbered { IfOk result (IsNumbered graph.now) }
+    ensures named { IfErr result (λ e. e ≡ Allocation) }
 {
     the_same_are_equal();
     let mut numbers = BTreeMap::new(alloc);
@@ -62,6 +65,7 @@ pub fn shape_pairs<Ix: Index>(
     ensures rising { IfOk result (λ pairs. IsNonDecreasingBy key_of pairs.items) }
     ensures numbers { IfOk result (λ pairs. (i : ℕ) → i < length pairs.items → number_at pairs.items i < length graph.now) }
     ensures shapes { IfOk result (λ pairs. (x y : ℕ) → x < length graph.now → y < length graph.now → HaveSameKeys pairs.items x y ↔ (shape_of (node_at graph.now x) ≡ shape_of (node_at graph.now y))) }
+    ensures named { IfErr result (λ e. e ≡ Allocation) }
 {
     let mut pairs = numbered(alloc, graph)?;
     pairs.sort_unstable_by_key(|pair| pair.0);

@@ -1,5 +1,6 @@
 // The spelling of a node's shape: the node without the nodes that its parts name, as numbers and letters.
-ghost use Rattle.std.specs.Prelude.{◌≡◌, ◌<◌, ◌++◌, [], ◌∷◌, length, map, flat_map, IfOk, OnOk};
+ghost use Rattle.std.specs.Prelude.{◌≡◌, ◌<◌, ◌++◌, [], ◌∷◌, length, map, flat_map, IfOk, OnOk, IfErr};
+ghost use Rattle.abi_base.specs.declared.fault.NoMemory.TheVariants.{Allocation};
 ghost use Rattle.abi_types.specs.Plain.{plain_label};
 ghost use Rattle.abi_types.specs.Parts.{plain_part};
 ghost use Rattle.pair_rules.specs.Same as same;
@@ -104,7 +105,8 @@ fn label_number(kind: LabelKind) -> u64
 }
 
 fn push_pair(into: &mut Vec<u64>, one: u64, other: u64) -> Result<(), NoMemory>
-    ensures { OnOk result (into.new.items ≡ into.old.items ++ one ∷ other ∷ []) }
+    ensures appended { OnOk result (into.new.items ≡ into.old.items ++ one ∷ other ∷ []) }
+    ensures named { IfErr result (λ e. e ≡ Allocation) }
 {
     into.push(one)?;
     into.push(other)?;
@@ -125,7 +127,8 @@ fn slot_number(slot: Slot) -> u64
 
 // Appends the numbers as one slice, which is faster than one by one.
 fn push_registers(into: &mut Vec<u64>, slots: &[Slot; 8]) -> Result<(), NoMemory>
-    ensures { OnOk result (into.new.items ≡ into.old.items ++ 1 ∷ spelled_list spelled_slot slots.now) }
+    ensures appended { OnOk result (into.new.items ≡ into.old.items ++ 1 ∷ spelled_list spelled_slot slots.now) }
+    ensures named { IfErr result (λ e. e ≡ Allocation) }
 {
     into.extend_from_slice(&[
         REGISTERS,
@@ -143,14 +146,16 @@ fn push_registers(into: &mut Vec<u64>, slots: &[Slot; 8]) -> Result<(), NoMemory
 }
 
 fn push_stack(into: &mut Vec<u64>, offset: u64, size: u64) -> Result<(), NoMemory>
-    ensures { OnOk result (into.new.items ≡ into.old.items ++ 2 ∷ offset ∷ size ∷ []) }
+    ensures appended { OnOk result (into.new.items ≡ into.old.items ++ 2 ∷ offset ∷ size ∷ []) }
+    ensures named { IfErr result (λ e. e ≡ Allocation) }
 {
     into.extend_from_slice(&[STACK, offset, size])?;
     Ok(())
 }
 
 fn push_number(into: &mut Vec<u64>, number: u64) -> Result<(), NoMemory>
-    ensures { OnOk result (into.new.items ≡ into.old.items ++ number ∷ []) }
+    ensures appended { OnOk result (into.new.items ≡ into.old.items ++ number ∷ []) }
+    ensures named { IfErr result (λ e. e ≡ Allocation) }
 {
     into.push(number)?;
     Ok(())
@@ -158,7 +163,8 @@ fn push_number(into: &mut Vec<u64>, number: u64) -> Result<(), NoMemory>
 
 #[tactic(auto, unfolding(crate::specs::Shapes::spelled_place))]
 fn push_place(into: &mut Vec<u64>, place: &Place) -> Result<(), NoMemory>
-    ensures { OnOk result (into.new.items ≡ into.old.items ++ spelled_place place.now) }
+    ensures appended { OnOk result (into.new.items ≡ into.old.items ++ spelled_place place.now) }
+    ensures named { IfErr result (λ e. e ≡ Allocation) }
 {
     match place {
         Place::Nothing => push_number(into, NOTHING),
@@ -169,7 +175,8 @@ fn push_place(into: &mut Vec<u64>, place: &Place) -> Result<(), NoMemory>
 }
 
 fn push_places(into: &mut Vec<u64>, places: &[Place]) -> Result<(), NoMemory>
-    ensures { OnOk result (into.new.items ≡ into.old.items ++ spelled_list spelled_place places.now) }
+    ensures appended { OnOk result (into.new.items ≡ into.old.items ++ spelled_list spelled_place places.now) }
+    ensures named { IfErr result (λ e. e ≡ Allocation) }
 {
     into.push(places.len() as u64)?;
     'places: for i in 0..places.len() {
@@ -179,14 +186,16 @@ fn push_places(into: &mut Vec<u64>, places: &[Place]) -> Result<(), NoMemory>
 }
 
 fn push_member(into: &mut Vec<u64>, letters: usize, bit: u64, width: u64) -> Result<(), NoMemory>
-    ensures { OnOk result (into.new.items ≡ into.old.items ++ 0 ∷ letters ∷ bit ∷ width ∷ []) }
+    ensures appended { OnOk result (into.new.items ≡ into.old.items ++ 0 ∷ letters ∷ bit ∷ width ∷ []) }
+    ensures named { IfErr result (λ e. e ≡ Allocation) }
 {
     into.extend_from_slice(&[MEMBER, letters as u64, bit, width])?;
     Ok(())
 }
 
 fn push_enumerator(into: &mut Vec<u64>, letters: usize, value: u64) -> Result<(), NoMemory>
-    ensures { OnOk result (into.new.items ≡ into.old.items ++ 1 ∷ letters ∷ value ∷ []) }
+    ensures appended { OnOk result (into.new.items ≡ into.old.items ++ 1 ∷ letters ∷ value ∷ []) }
+    ensures named { IfErr result (λ e. e ≡ Allocation) }
 {
     into.extend_from_slice(&[ENUMERATOR, letters as u64, value])?;
     Ok(())
@@ -194,7 +203,8 @@ fn push_enumerator(into: &mut Vec<u64>, letters: usize, value: u64) -> Result<()
 
 #[tactic(auto, unfolding(crate::specs::Shapes::spelled_part))]
 fn push_part<Ix: Index>(into: &mut Vec<u64>, part: &Part<Ix>) -> Result<(), NoMemory>
-    ensures { OnOk result (into.new.items ≡ into.old.items ++ spelled_part (plain_part Ix.number_of part.now)) }
+    ensures appended { OnOk result (into.new.items ≡ into.old.items ++ spelled_part (plain_part Ix.number_of part.now)) }
+    ensures named { IfErr result (λ e. e ≡ Allocation) }
 {
     match part {
         Part::Member {
@@ -212,7 +222,8 @@ fn push_part<Ix: Index>(into: &mut Vec<u64>, part: &Part<Ix>) -> Result<(), NoMe
 }
 
 fn push_parts<Ix: Index>(into: &mut Vec<u64>, parts: &[Part<Ix>]) -> Result<(), NoMemory>
-    ensures { OnOk result (into.new.items ≡ into.old.items ++ spelled_list spelled_part (map (plain_part Ix.number_of) parts.now)) }
+    ensures appended { OnOk result (into.new.items ≡ into.old.items ++ spelled_list spelled_part (map (plain_part Ix.number_of) parts.now)) }
+    ensures named { IfErr result (λ e. e ≡ Allocation) }
 {
     into.push(parts.len() as u64)?;
     'parts: for i in 0..parts.len() {
@@ -222,13 +233,15 @@ fn push_parts<Ix: Index>(into: &mut Vec<u64>, parts: &[Part<Ix>]) -> Result<(), 
 }
 
 fn push_label(into: &mut Vec<u64>, label: &Label) -> Result<(), NoMemory>
-    ensures { OnOk result (into.new.items ≡ into.old.items ++ spelled_label (plain_label label.now)) }
+    ensures appended { OnOk result (into.new.items ≡ into.old.items ++ spelled_label (plain_label label.now)) }
+    ensures named { IfErr result (λ e. e ≡ Allocation) }
 {
     push_pair(into, label_number(label.kind), label.name.len() as u64)
 }
 
 fn push_labels(into: &mut Vec<u64>, labels: &[Label]) -> Result<(), NoMemory>
-    ensures { OnOk result (into.new.items ≡ into.old.items ++ spelled_list spelled_label (map plain_label labels.now)) }
+    ensures appended { OnOk result (into.new.items ≡ into.old.items ++ spelled_list spelled_label (map plain_label labels.now)) }
+    ensures named { IfErr result (λ e. e ≡ Allocation) }
 {
     into.push(labels.len() as u64)?;
     'labels: for i in 0..labels.len() {
@@ -239,7 +252,8 @@ fn push_labels(into: &mut Vec<u64>, labels: &[Label]) -> Result<(), NoMemory>
 
 #[tactic(auto, unfolding(crate::specs::Shapes::spelled_call))]
 fn push_call(into: &mut Vec<u64>, call: &Call) -> Result<(), NoMemory>
-    ensures { OnOk result (into.new.items ≡ into.old.items ++ spelled_call call.now) }
+    ensures appended { OnOk result (into.new.items ≡ into.old.items ++ spelled_call call.now) }
+    ensures named { IfErr result (λ e. e ≡ Allocation) }
 {
     push_place(into, &call.outcome())?;
     push_places(into, call.params())
@@ -255,7 +269,8 @@ fn head_number(kind: Kind, group: Group, declared_only: bool, variadic: bool) ->
 }
 
 fn push_numbers<Ix: Index>(into: &mut Vec<u64>, view: &View<Ix>) -> Result<(), NoMemory>
-    ensures { OnOk result (into.new.items ≡ into.old.items ++ spelled_numbers view.now) }
+    ensures appended { OnOk result (into.new.items ≡ into.old.items ++ spelled_numbers view.now) }
+    ensures named { IfErr result (λ e. e ≡ Allocation) }
 {
     let head = head_number(view.kind, view.group, view.declared_only, view.variadic);
     let letters = view.tag.len() as u64;
@@ -265,7 +280,8 @@ fn push_numbers<Ix: Index>(into: &mut Vec<u64>, view: &View<Ix>) -> Result<(), N
 
 #[tactic(auto, unfolding(crate::specs::Shapes::spelled_view))]
 fn push_view<Ix: Index>(into: &mut Vec<u64>, view: &View<Ix>) -> Result<(), NoMemory>
-    ensures { OnOk result (into.new.items ≡ into.old.items ++ spelled_view view.now) }
+    ensures appended { OnOk result (into.new.items ≡ into.old.items ++ spelled_view view.now) }
+    ensures named { IfErr result (λ e. e ≡ Allocation) }
 {
     push_numbers(into, view)?;
     push_parts(into, view.parts.as_slice())?;
@@ -274,7 +290,8 @@ fn push_view<Ix: Index>(into: &mut Vec<u64>, view: &View<Ix>) -> Result<(), NoMe
 
 // The letters of labels.
 fn push_label_letters(into: &mut Vec<u8>, labels: &[Label]) -> Result<(), NoMemory>
-    ensures { OnOk result (into.new.items ≡ into.old.items ++ flat_map letters_of_label (map plain_label labels.now)) }
+    ensures appended { OnOk result (into.new.items ≡ into.old.items ++ flat_map letters_of_label (map plain_label labels.now)) }
+    ensures named { IfErr result (λ e. e ≡ Allocation) }
 {
     'labels: for i in 0..labels.len() {
         into.extend_from_slice(labels[i].name)?;
@@ -296,7 +313,8 @@ fn letters_of_part<'a, Ix: Index>(part: &Part<'a, Ix>) -> &'a [u8]
 
 // The letters of parts.
 fn push_part_letters<Ix: Index>(into: &mut Vec<u8>, parts: &[Part<Ix>]) -> Result<(), NoMemory>
-    ensures { OnOk result (into.new.items ≡ into.old.items ++ flat_map shapes_spec.letters_of_part (map (plain_part Ix.number_of) parts.now)) }
+    ensures appended { OnOk result (into.new.items ≡ into.old.items ++ flat_map shapes_spec.letters_of_part (map (plain_part Ix.number_of) parts.now)) }
+    ensures named { IfErr result (λ e. e ≡ Allocation) }
 {
     'parts: for i in 0..parts.len() {
         let letters = letters_of_part(&parts[i]);
@@ -312,7 +330,8 @@ fn push_letters<Ix: Index>(
     labels: &[Label],
     view: &View<Ix>,
 ) -> Result<(), NoMemory>
-    ensures { OnOk result (into.new.items ≡ into.old.items ++ letters_of (record { labels = map plain_label labels.now; view = view.now })) }
+    ensures appended { OnOk result (into.new.items ≡ into.old.items ++ letters_of (record { labels = map plain_label labels.now; view = view.now })) }
+    ensures named { IfErr result (λ e. e ≡ Allocation) }
 {
     push_label_letters(into, labels)?;
     into.extend_from_slice(view.tag)?;
@@ -326,7 +345,8 @@ pub(crate) fn spell<Ix: Index>(
     labels: &[Label],
     view: &View<Ix>,
 ) -> Result<(), NoMemory>
-    ensures { OnOk result (IsSpellingOf into.new (record { labels = map plain_label labels.now; view = view.now })) }
+    ensures spelled { OnOk result (IsSpellingOf into.new (record { labels = map plain_label labels.now; view = view.now })) }
+    ensures named { IfErr result (λ e. e ≡ Allocation) }
 {
     into.numbers.clear();
     into.letters.clear();
@@ -337,7 +357,8 @@ pub(crate) fn spell<Ix: Index>(
 
 /// A copy of the spelling, without spare capacity.
 pub(crate) fn copy(alloc: Global, spelling: &Spelling) -> Result<Spelling, NoMemory>
-    ensures { IfOk result (λ copied. AreOneSpelling copied spelling.now) }
+    ensures copied { IfOk result (λ copied. AreOneSpelling copied spelling.now) }
+    ensures named { IfErr result (λ e. e ≡ Allocation) }
 {
     Ok(Spelling {
         numbers: Vec::from_slice(alloc, spelling.numbers.as_slice())?,

@@ -1,6 +1,7 @@
 // Splits of classes by lists of numbers.
-ghost use Rattle.std.specs.Prelude.{◌≡◌, ◌<◌, ◌≤◌, ℕ, false, length, take, IfOk, OnOk};
+ghost use Rattle.std.specs.Prelude.{◌≡◌, ◌<◌, ◌≤◌, ℕ, false, length, take, IfOk, OnOk, IfErr};
 ghost use Rattle.std.specs.List.Sorted.{IsNonDecreasingBy};
+ghost use Rattle.abi_base.specs.declared.fault.NoMemory.TheVariants.{Allocation};
 ghost use Rattle.type_classes.specs.Blocks.{len_of, AreBlocks, ListsMarks, HasNoMarks};
 ghost use Rattle.type_classes.specs.Splits.{key_of, key_at, number_at, stands_beside, IsMarkedRun, IsSplitBy};
 
@@ -15,7 +16,8 @@ fn mark_run(blocks: &mut Blocks, pairs: &[(usize, usize)], from: usize) -> Resul
     requires numbers { (i : ℕ) → i < length pairs.now → number_at pairs.now i < len_of blocks.old }
     requires inside { from < length pairs.now }
     requires fresh { (x : ℕ) → stands_beside (take from pairs.now) (key_at pairs.now from) x ≡ false }
-    ensures { IfOk result (λ to. IsMarkedRun blocks.old blocks.new pairs.now from to) }
+    ensures marked { IfOk result (λ to. IsMarkedRun blocks.old blocks.new pairs.now from to) }
+    ensures named { IfErr result (λ e. e ≡ Allocation) }
 {
     let first = pairs[from];
     'run: for i in from..pairs.len() {
@@ -36,7 +38,8 @@ pub fn split_by_keys(blocks: &mut Blocks, pairs: &[(usize, usize)]) -> Result<()
     requires unmarked { HasNoMarks blocks.old }
     requires rising { IsNonDecreasingBy key_of pairs.now }
     requires numbers { (i : ℕ) → i < length pairs.now → number_at pairs.now i < len_of blocks.old }
-    ensures { OnOk result (IsSplitBy blocks.old blocks.new pairs.now) }
+    ensures split { OnOk result (IsSplitBy blocks.old blocks.new pairs.now) }
+    ensures named { IfErr result (λ e. e ≡ Allocation) }
 {
     let mut at = 0;
     'runs: while at < pairs.len() {

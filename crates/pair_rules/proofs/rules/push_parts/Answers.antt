@@ -26,7 +26,7 @@ walk-preserved c =
       | else-breaks_part w ↦ rw w.list-is (filter-more_kept (broken_at c.args.rule) (breaks_part c.args.rule c.args.old.now c.args.new.now) c.walk.part c.args.list.now c.walk.list c.walk.invariant (sym c.breaks_part.ensures ∙ w.if-breaks_part.false))
     ]
 
-pub returns : goal.returns
-returns c =
+pub returns-clause-appended : goal.returns-clause-appended
+returns-clause-appended c =
     let all : c.walk.part ≡ length c.args.old.now.parts = omega (arith, count (match_of c.args.old.now c.args.new.now) (length c.args.old.now.parts) c.args.matches.now c.requires) in
     rw (← all) c.walk.invariant

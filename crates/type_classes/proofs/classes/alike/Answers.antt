@@ -19,10 +19,10 @@ refine-requires-clause-refined g c =
     let whole = told.len in
     first_refined nodes c.in_ok-blocks.blocks c.split_by_keys.new.blocks c.as_slice.result.now (told.len ∙ c.len.ensures) (λ x inside. told.classes x (omega arith))
     (subst (λ (ps : List (ℕ × ℕ)). (x y : ℕ) → x < length nodes → y < length nodes → HaveSameKeys ps x y ↔ (shape_of (node_at nodes x) ≡ shape_of (node_at nodes y))) (sym c.as_slice.ensures.value) c.in_ok-pairs.ensures.shapes)
-    c.in_ok-split_by_keys.ensures
+    c.in_ok-split_by_keys.ensures.split
 
 pub invariant_of-result : goal.invariant_of-result
-invariant_of-result g c = AreSound-reps c.args.graph.now (class_in c.refine.new.blocks) c.in_ok-reps.reps.items c.known.ensures c.in_ok-reps.ensures c.in_ok-refine.ensures.refined
+invariant_of-result g c = AreSound-reps c.args.graph.now (class_in c.refine.new.blocks) c.in_ok-reps.reps.items c.known.ensures c.in_ok-reps.ensures.reps c.in_ok-refine.ensures.refined
 
 pub returns-clause-coarsest : goal.returns-clause-coarsest
-returns-clause-coarsest g c = coarsest_reps c.args.graph.now (class_in c.refine.new.blocks) c.in_ok-reps.reps.items c.known.ensures c.in_ok-reps.ensures c.in_ok-refine.ensures.refined
+returns-clause-coarsest g c = coarsest_reps c.args.graph.now (class_in c.refine.new.blocks) c.in_ok-reps.reps.items c.known.ensures c.in_ok-reps.ensures.reps c.in_ok-refine.ensures.refined

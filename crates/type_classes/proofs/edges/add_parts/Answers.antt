@@ -9,7 +9,7 @@ parts-preserved g c =
     IsAdding-more c.args.graph.now c.args.incoming.now c.parts.incoming c.add_part.new.incoming c.args.node c.parts.k (plain_part g.Ix.Index.number_of c.part.result.now) c.parts.invariant
     (to_part c.args.graph.now c.args.node (g.Ix.Index.number_of c.of.result) c.parts.k c.view-view.result.now (plain_part g.Ix.Index.number_of c.part.result.now) c.view-view.ensures c.of.ensures c.part.ensures) told.linked told.many told.pairs
 
-pub returns : goal.returns
-returns g c =
+pub returns-clause-added : goal.returns-clause-added
+returns-clause-added g c =
     IsAdding-all c.args.graph.now c.args.incoming.now c.parts.incoming c.args.node c.parts.k
     (parts_past c.args.graph.now c.args.node (g.Ix.Index.number_of c.of.result) c.parts.k c.parts_len-k-end.result c.view-view.result.now c.view-view.ensures c.of.ensures c.parts_len-k-end.ensures c.parts-test.false) c.requires.before c.parts.invariant

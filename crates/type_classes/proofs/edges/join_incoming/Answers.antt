@@ -8,7 +8,7 @@ use Rattle.type_classes.proofs.EdgeLemmas.{moved_pairs}
 use Rattle.type_classes.proofs.edges.join_incoming.Goals as goal
 
 pub returns-clause-pairs : goal.returns-clause-pairs
-returns-clause-pairs c = moved_pairs c.join.new.into.items c.sort_unstable_by_key.new.self.items (λ e. (s : ℕ) × Contains c.args.nodes.now s × IsIncoming c.args.incoming.now s e) c.sort_unstable_by_key.ensures.permutation c.in_ok-join.ensures
+returns-clause-pairs c = moved_pairs c.join.new.into.items c.sort_unstable_by_key.new.self.items (λ e. (s : ℕ) × Contains c.args.nodes.now s × IsIncoming c.args.incoming.now s e) c.sort_unstable_by_key.ensures.permutation c.in_ok-join.ensures.joined
 
 pub returns-clause-rising : goal.returns-clause-rising
 returns-clause-rising c = IsNonDecreasingBy-from_sort_by_key key_of c.sort_unstable_by_key.new.self.items c.sort_unstable_by_key.ensures.sorted (λ a r q k. search rules)

@@ -9,7 +9,7 @@ pub returns-clause-rising : goal.returns-clause-rising
 returns-clause-rising g c = IsNonDecreasingBy-from_sort_by_key key_of c.sort_unstable_by_key.new.self.items c.sort_unstable_by_key.ensures.sorted (λ a r q k. search rules)
 
 pub returns-clause-numbers : goal.returns-clause-numbers
-returns-clause-numbers g c = sorted_inside c.args.graph.now c.in_ok-pairs.pairs c.sort_unstable_by_key.new.self.items c.in_ok-pairs.ensures c.sort_unstable_by_key.ensures.permutation
+returns-clause-numbers g c = sorted_inside c.args.graph.now c.in_ok-pairs.pairs c.sort_unstable_by_key.new.self.items c.in_ok-pairs.ensures.numbered c.sort_unstable_by_key.ensures.permutation
 
 pub returns-clause-shapes : goal.returns-clause-shapes
-returns-clause-shapes g c = sorted_shapes c.args.graph.now c.in_ok-pairs.pairs c.sort_unstable_by_key.new.self.items c.in_ok-pairs.ensures c.sort_unstable_by_key.ensures.permutation
+returns-clause-shapes g c = sorted_shapes c.args.graph.now c.in_ok-pairs.pairs c.sort_unstable_by_key.new.self.items c.in_ok-pairs.ensures.numbered c.sort_unstable_by_key.ensures.permutation

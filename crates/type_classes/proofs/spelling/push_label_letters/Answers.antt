@@ -8,5 +8,5 @@ pub labels-preserved : goal.labels-preserved
 labels-preserved c =
     letters_more_at plain_label letters_of_label c.args.into.now.items c.labels.into.items c.extend_from_slice.new.self.items c.labels.i c.args.labels.now _ c.labels-test.true c.labels.invariant c.in_ok-extend_from_slice.ensures.items
 
-pub returns : goal.returns
-returns c = letters_all plain_label letters_of_label c.args.into.now.items c.labels.into.items c.labels.i c.args.labels.now c.labels-test.false c.labels.invariant
+pub returns-clause-appended : goal.returns-clause-appended
+returns-clause-appended c = letters_all plain_label letters_of_label c.args.into.now.items c.labels.into.items c.labels.i c.args.labels.now c.labels-test.false c.labels.invariant

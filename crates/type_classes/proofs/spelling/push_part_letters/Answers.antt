@@ -10,5 +10,5 @@ parts-preserved g c =
     letters_more (plain_part g.Ix.Index.number_of) letters_of_part c.args.into.now.items c.parts.into.items c.extend_from_slice.new.self.items c.parts.i c.args.parts.now c.index-parts-i.result c.parts-test.true c.index-parts-i.is c.parts.invariant
     (c.in_ok-extend_from_slice.ensures.items ∙ ap (λ (xs : List ℕ). c.parts.into.items ++ xs) c.letters_of_part-letters.ensures)
 
-pub returns : goal.returns
-returns g c = letters_all (plain_part g.Ix.Index.number_of) letters_of_part c.args.into.now.items c.parts.into.items c.parts.i c.args.parts.now c.parts-test.false c.parts.invariant
+pub returns-clause-appended : goal.returns-clause-appended
+returns-clause-appended g c = letters_all (plain_part g.Ix.Index.number_of) letters_of_part c.args.into.now.items c.parts.into.items c.parts.i c.args.parts.now c.parts-test.false c.parts.invariant

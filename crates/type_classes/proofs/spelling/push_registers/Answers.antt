@@ -21,8 +21,8 @@ eight_slots (x0 ∷ x1 ∷ x2 ∷ x3 ∷ x4 ∷ x5 ∷ x6 ∷ []) d n0 n1 n2 n3 
 eight_slots (x0 ∷ x1 ∷ x2 ∷ x3 ∷ x4 ∷ x5 ∷ x6 ∷ x7 ∷ []) d n0 n1 n2 n3 n4 n5 n6 n7 is e0 e1 e2 e3 e4 e5 e6 e7 = cc
 eight_slots (x0 ∷ x1 ∷ x2 ∷ x3 ∷ x4 ∷ x5 ∷ x6 ∷ x7 ∷ x8 ∷ xs) d n0 n1 n2 n3 n4 n5 n6 n7 is e0 e1 e2 e3 e4 e5 e6 e7 = absurd (omega (arith, is))
 
-pub returns : goal.returns
-returns c =
+pub returns-clause-appended : goal.returns-clause-appended
+returns-clause-appended c =
     c.in_ok-extend_from_slice.ensures.items
     ∙ ap (λ (ns : List ℕ). c.args.into.now.items ++ 1 ∷ ns)
     (eight_slots c.args.slots.now _ _ _ _ _ _ _ _ _ (omega arith) c.slot_number.ensures c.slot_number-2.ensures c.slot_number-3.ensures c.slot_number-4.ensures c.slot_number-5.ensures c.slot_number-6.ensures c.slot_number-7.ensures c.slot_number-8.ensures)

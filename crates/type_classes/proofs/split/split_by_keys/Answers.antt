@@ -13,7 +13,7 @@ mark_run-requires-clause-fresh c = fresh_key c.args.pairs.now c.runs.at c.runs.i
 
 pub runs-preserved : goal.runs-preserved
 runs-preserved c =
-    let run = c.in_ok-at.ensures in
+    let run = c.in_ok-at.ensures.marked in
     let told = c.in_ok-split.ensures in
     record {
       split = IsSplitBy-more c.args.blocks.now c.runs.blocks c.mark_run.new.blocks c.split.new.self c.args.pairs.now c.runs.at c.in_ok-at.at c.runs.invariant.parted c.runs-test.true c.runs.invariant.split run told.blocks told.listed told.unmarked told.keeps;

@@ -5,16 +5,16 @@ use Rattle.pair_explorer.specs.Keys.{AreKnown}
 use Rattle.pair_explorer.proofs.Keyed.{added-new, added-there}
 use Rattle.pair_explorer.proofs.visits.Visits.add.Goals as goal
 
-pub returns-in_ok-push : goal.returns-in_ok-push
-returns-in_ok-push c =
+pub returns-in_ok-push-clause-added : goal.returns-in_ok-push-clause-added
+returns-in_ok-push-clause-added c =
     added-new c.args.self.now c.self.inside.list.items c.reserve.new.self.items c.push.new.self.items c.args.visit.now c.in_ok-put.field-0 c.self.view_is c.in_ok-reserve.ensures.items (c.in_ok-put.ensures.is_new c.self.inside.list.items c.self.invariant) c.if-branch.true c.in_ok-push.ensures.items
 
-pub returns-else-branch : goal.returns-else-branch
-returns-else-branch c =
+pub returns-else-branch-clause-added : goal.returns-else-branch-clause-added
+returns-else-branch-clause-added c =
     added-there c.args.self.now c.self.inside.list.items c.reserve.new.self.items c.args.visit.now c.in_ok-put.field-0 c.self.view_is c.in_ok-reserve.ensures.items (c.in_ok-put.ensures.is_new c.self.inside.list.items c.self.invariant) c.if-branch.false
 
-pub invariant_of-self-in-Continue-branch-4 : goal.invariant_of-self-in-Continue-branch-4
-invariant_of-self-in-Continue-branch-4 c =
+pub invariant_of-self-in-Continue-branch-3 : goal.invariant_of-self-in-Continue-branch-3
+invariant_of-self-in-Continue-branch-3 c =
     let items = c.self.inside.list.items in
     let P : List Visit → Type 0 = λ visits. AreKnown c.put.new.known visits in
     let pushed =

@@ -11,7 +11,7 @@ pub split_class-requires-clause-inside : goal.split_class-requires-clause-inside
 split_class-requires-clause-inside c = popped_inside c.touched.self c.pop.new.self.items c.in-Some.class c.touched.invariant.listed c.in-Some.ensures.items
 
 pub touched-preserved : goal.touched-preserved
-touched-preserved c = IsSplitting-more c.args.self.now c.touched.self c.split_class.new.self c.pop.new.self c.in-Some.class c.touched.invariant c.in-Some.ensures.items c.in_ok-split_class.ensures
+touched-preserved c = IsSplitting-more c.args.self.now c.touched.self c.split_class.new.self c.pop.new.self c.in-Some.class c.touched.invariant c.in-Some.ensures.items c.in_ok-split_class.ensures.split
 
 pub returns-clause-unmarked : goal.returns-clause-unmarked
 returns-clause-unmarked c =

@@ -12,7 +12,7 @@ edges-preserved c =
     let read = read_edge es (c.edges.link - 1) c.index-edge.result.now inside c.index-edge.ensures in
     (IsWalking-more c.args.self.now c.args.node c.edges.link c.args.into.now.items c.edges.into.items c.push.new.self.items c.index-edge.result.now c.requires.linked c.edges.invariant some read c.in_ok-push.ensures.items).0
 
-pub returns : goal.returns
-returns c =
+pub returns-clause-appended : goal.returns-clause-appended
+returns-clause-appended c =
     let none : c.edges.link ≡ 0 = omega arith in
     IsWalking-all c.args.self.now c.args.node c.edges.link c.args.into.now.items c.edges.into.items none c.edges.invariant
