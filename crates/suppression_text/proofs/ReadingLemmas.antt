@@ -3,8 +3,8 @@ use Rattle.std.proofs.Common.{◌≡◌, ◌<◌, ◌≤◌, ◌+◌, ◌-◌, �
 use Rattle.std.specs.Prelude.{◌^◌, min}
 use Rattle.std.specs.List.{range_with_len, sum_by}
 use Rattle.std.specs.Str.Lines.{lines}
-use Rattle.std.proofs.lemmas.List.{drop_more, get_or-map, take_more, take_all, take-append-drop, length-drop, length-map, length-take-le}
-use Rattle.std.proofs.lemmas.List.Sums.{sum_by-append, sum_by_push}
+use Rattle.std.proofs.lemmas.List.{drop_more, get_or-map, take_more, take_all, length-drop, length-map, length-take-le}
+use Rattle.std.proofs.lemmas.List.Sums.{sum_by-take-le, sum_by_push}
 use Rattle.abi_base.specs.declared.fault.Fault.{Fault}
 use Rattle.abi_base.specs.declared.fault.Refusal.{Refusal}
 use Rattle.abi_base.specs.declared.fault.Refusal.TheVariants as refusal
@@ -160,14 +160,6 @@ next_taken bytes left rest line k sections was is =
     let first_is : get_or (lines bytes) k [] ≡ line = cc in
     take_more (lines bytes) k [] lt ∙ ap (λ (l : List ℕ). take k (lines bytes) ++ l ∷ []) first_is
 
--- the lines that were read and the next one are among all
-pub classes_front : (bytes : List ℕ) (k : ℕ) → sum_by classes_of (take k (lines bytes)) ≤ file_classes bytes
-classes_front bytes k =
-    let split : sum_by classes_of (lines bytes) ≡ sum_by classes_of (take k (lines bytes)) + sum_by classes_of (drop k (lines bytes)) =
-    ap (λ (l : List (List ℕ)). sum_by classes_of l) (sym (take-append-drop k (lines bytes)))
-    ∙ sum_by-append classes_of (take k (lines bytes)) (drop k (lines bytes)) in
-    omega (arith, split)
-
 pub classes_more : (bytes left rest line : List ℕ) (k : ℕ) (sections : List PlainSection) → IsReading bytes left k sections → lines left ≡ line ∷ lines rest
     → sum_by classes_of (take (k + 1) (lines bytes)) ≡ sum_by classes_of (take k (lines bytes)) + classes_of line
 classes_more bytes left rest line k sections was is =
@@ -183,7 +175,7 @@ classes_past bytes left rest line k sections budget n was is spent capped above 
       spent.most,
       spent.taken,
       classes_more bytes left rest line k sections was is,
-      classes_front bytes (k + 1),
+      sum_by-take-le classes_of (lines bytes) (k + 1),
     )
 
 -- the classes of the next line were taken
