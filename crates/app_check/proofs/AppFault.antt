@@ -2,11 +2,15 @@
 use Rattle.std.proofs.Common.{◌≡◌, ◌<◌, ℕ, arith, List, [], ◌∷◌, length, Option, Some, None, refl, sym, ◌∙◌, ap}
 use Rattle.std.proofs.lemmas.List.{length-map}
 use Rattle.abi_base.specs.declared.fault.Fault.{Fault}
-use Rattle.abi_base.specs.Outcome.{first}
+use Rattle.abi_base.specs.declared.fault.Refusal.{Refusal}
+use Rattle.abi_base.specs.declared.fault.Refusal.TheVariants as refusal
+use Rattle.abi_base.specs.Outcome.{Refuses, first}
+use Rattle.elf.proofs.lemmas.Faults.{none_both}
 use Rattle.elf.specs.declared.symbols.symbol.Symbol.{Symbol}
 use Rattle.elf.specs.symbols.Plain.{plain_symbol, plain_symbols}
 use Rattle.elf.specs.symbols.Symbols.{PlainSymbol, symbols_of}
-use Rattle.elf.specs.versions.Versions.{version_fault}
+use Rattle.elf.specs.versions.Definitions.{definition_faults}
+use Rattle.elf.specs.versions.Versions.{table_fault, version_fault}
 use Rattle.elf_needs.specs.Indexes.{indexes_of}
 use Rattle.elf_needs.specs.Needs.{PlainNeed, need_with, needs_fault}
 use Rattle.app_check.specs.Imports.{all_need_bytes, most_need_bytes, imports_with, import_fault_with, symbol_indexes, imports_fault, imports_of}
@@ -26,6 +30,14 @@ imports_last f symbols read versions needs =
     let sound : version_fault f (length (symbols_of f)) ≡ None = ap (version_fault f) (sym (counted f symbols read)) ∙ versions in
     ap (λ (o : Option Fault). first (o ∷ needs_fault f ∷ imports_fault f ∷ [])) sound
     ∙ ap (λ (o : Option Fault). first (o ∷ imports_fault f ∷ [])) needs ∙ last_fault (imports_fault f)
+
+-- where versions have no fault, the table of indexes is not refused
+pub no_table_fault : (f : List ℕ) (symbols : ℕ) (e : Refusal) (any : Option Fault) → version_fault f symbols ≡ None → Refuses e (table_fault f symbols) → Refuses e any
+unfolding version_fault
+no_table_fault f symbols (refusal.Fault answered) any sound refused =
+    let none : None ≡ Some answered = sym (none_both (table_fault f symbols) (definition_faults f) sound).0 ∙ refused in
+    cc
+no_table_fault f symbols (refusal.NoMemory cause) any sound refused = refused
 
 module _ (f : List ℕ) (symbols : List Symbol) (named : ℕ → Option PlainNeed) (indexes : List ℕ) (read : plain_symbols symbols ≡ symbols_of f) (same : (index : ℕ) → named index ≡ need_with f index) (are : indexes ≡ indexes_of f (length symbols)) where
   all_indexes : indexes ≡ symbol_indexes f

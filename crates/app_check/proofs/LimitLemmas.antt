@@ -1,9 +1,7 @@
 -- A limit that one part of the reading passes is one that the whole passes.
-use Rattle.std.proofs.Common.{◌≡◌, ℕ, List, refl, inl, inr}
-use Rattle.abi_base.specs.declared.fault.NoMemory.{NoMemory}
-use Rattle.abi_base.specs.declared.fault.NoMemory.TheVariants as memory
+use Rattle.std.proofs.Common.{ℕ, List, inl, inr}
 use Rattle.abi_base.specs.declared.fault.Refusal.{Refusal}
-use Rattle.abi_base.specs.Outcome.{OnLimit, OnPast}
+use Rattle.abi_base.specs.Outcome.{OnPast}
 use Rattle.abi_base.proofs.lemmas.Outcomes.{on_past_weaker}
 use Rattle.elf.specs.symbols.Symbols.{PassesSymbols}
 use Rattle.elf.specs.versions.Definitions.{PassesDefinitions}
@@ -22,7 +20,6 @@ symbols_pass f e h = on_past_weaker e (PassesSymbols f) (AppPasses f) (λ l p. i
 pub imports_pass : (f : List ℕ) (e : Refusal) → OnPast e (ImportsPass f) → OnPast e (AppPasses f)
 imports_pass f e h = on_past_weaker e (ImportsPass f) (AppPasses f) (λ l p. inr p) h
 
--- what passes no limit fails by an allocation
-pub never_past : (cause : NoMemory) → OnLimit cause (λ l. ⊥) → cause ≡ memory.Allocation
-never_past memory.Allocation h = refl
-never_past (memory.Past l) h = absurd h
+-- reading indexes passes no limit
+pub indexes_pass : (f : List ℕ) (e : Refusal) → OnPast e (λ l. ⊥) → OnPast e (ImportsPass f)
+indexes_pass f e h = on_past_weaker e (λ l. ⊥) (ImportsPass f) (λ l p. absurd p) h

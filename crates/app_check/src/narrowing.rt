@@ -1,5 +1,6 @@
 // The marks for one application.
-ghost use Rattle.std.specs.Prelude.{◌≡◌, ◌||◌, not, length, IfOk};
+ghost use Rattle.std.specs.Prelude.{◌≡◌, ◌||◌, not, length, IfErr, IfOk};
+ghost use Rattle.abi_base.specs.declared.fault.NoMemory.TheVariants.{Allocation};
 ghost use Rattle.app_check.specs.Used.{narrowed_marks};
 ghost use Rattle.app_check.specs.Used as spec;
 
@@ -17,7 +18,8 @@ fn is_left_out(dropped: bool, used: bool) -> bool
 // Drops each export that is dropped already or is not used.
 fn narrowed(alloc: Global, dropped: &[bool], used: &[bool]) -> Result<List<bool>, NoMemory>
     requires { length dropped.now ≡ length used.now }
-    ensures { IfOk result (λ exports. exports ≡ spec.narrowed dropped.now used.now) }
+    ensures read { IfOk result (λ exports. exports ≡ spec.narrowed dropped.now used.now) }
+    ensures named { IfErr result (λ e. e ≡ Allocation) }
 {
     let mut exports = List::new(alloc);
     for place in 0..dropped.len() {
@@ -26,10 +28,11 @@ fn narrowed(alloc: Global, dropped: &[bool], used: &[bool]) -> Result<List<bool>
     Ok(exports)
 }
 
-/// These marks, which also drop each export that is not used. Everything else is kept.
+/// These marks, which also drop each export that is not used. Everything else is kept. Fails only where an allocation does.
 pub fn narrow(alloc: Global, marks: &Marks, used: &[bool]) -> Result<Marks, NoMemory>
     requires { length marks.now.exports ≡ length used.now }
-    ensures { IfOk result (λ narrowed. narrowed ≡ narrowed_marks marks.now used.now) }
+    ensures read { IfOk result (λ narrowed. narrowed ≡ narrowed_marks marks.now used.now) }
+    ensures named { IfErr result (λ e. e ≡ Allocation) }
 {
     Ok(Marks {
         digest: marks.digest,

@@ -1,7 +1,6 @@
 // Reads the imports of an application.
 ghost use Rattle.std.specs.Prelude.{◌≡◌, ◌≤◌, ◌<◌, ◌^◌, ◌+◌, ◌++◌, ◌∷◌, [], None, length, IfErr, IfOk, OnOk};
 ghost use Rattle.std.specs.Option.{option_map};
-ghost use Rattle.abi_base.specs.declared.fault.NoMemory.TheVariants.{Allocation};
 ghost use Rattle.abi_base.specs.Budgets.{with_taken};
 ghost use Rattle.abi_base.specs.Limits.{input_limit};
 ghost use Rattle.abi_base.specs.Outcome.{Judges, OnLimit, OnPast, first};
@@ -155,23 +154,9 @@ fn imports_in<'a>(
     Ok(imports)
 }
 
-// The version indexes of the symbols of a file whose versions have no fault. Then the table of indexes has none either.
-#[tactic(auto, using(crate::proofs::LimitLemmas::never_past))]
-fn sound_indexes(alloc: Global, file: &ElfFile<'_>, symbols: usize) -> Result<Indexes, NoMemory>
-    requires { version_fault file.now symbols ≡ None }
-    ensures read { IfOk result (λ indexes. indexes ≡ indexes_of file.now symbols) }
-    ensures named { IfErr result (λ e. e ≡ Allocation) }
-{
-    match indexes(alloc, file, symbols) {
-        Ok(indexes) => Ok(indexes),
-        Err(Refusal::NoMemory(cause)) => Err(cause),
-        // There is no fault.
-        Err(Refusal::Fault(_)) => Err(NoMemory::Allocation),
-    }
-}
-
-// The imports among the symbols of a file. Err is the first fault of its versions, its version needs and its imports.
-#[tactic(auto, using(crate::proofs::LimitLemmas::definitions_pass, crate::proofs::LimitLemmas::needs_pass), unfolding(crate::specs::Imports::imports_of))]
+// The imports among the symbols of a file. Err is the first fault of its versions, its version needs and its imports. Where its
+// versions have no fault, the table of their indexes has none either.
+#[tactic(auto, using(crate::proofs::LimitLemmas::definitions_pass, crate::proofs::LimitLemmas::needs_pass, crate::proofs::LimitLemmas::indexes_pass), unfolding(crate::specs::Imports::imports_of))]
 fn imports_among<'a>(
     alloc: Global,
     file: &ElfFile<'a>,
@@ -186,7 +171,7 @@ fn imports_among<'a>(
 {
     versions(alloc, file, symbols.len())?;
     let needs = needs(alloc, file)?;
-    let indexes = sound_indexes(alloc, file, symbols.len())?;
+    let indexes = indexes(alloc, file, symbols.len())?;
     if let Some(fault) = import_fault(&needs, &indexes, symbols) {
         return Err(Refusal::Fault(fault));
     }

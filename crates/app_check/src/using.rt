@@ -1,5 +1,6 @@
 // The exports of a library that an application uses.
-ghost use Rattle.std.specs.Prelude.{◌≡◌, ℕ, nat_eq, length, map, filter, IfOk};
+ghost use Rattle.std.specs.Prelude.{◌≡◌, ℕ, nat_eq, length, map, filter, IfErr, IfOk};
+ghost use Rattle.abi_base.specs.declared.fault.NoMemory.TheVariants.{Allocation};
 ghost use Rattle.std.specs.HashSet.{contains};
 ghost use Rattle.std.specs.List.{range_with_len, list_any};
 ghost use Rattle.std.specs.Option.{option_copied};
@@ -53,7 +54,8 @@ fn wanted_of<'a>(
     imports: &[Import<'a>],
     soname: Option<&[u8]>,
 ) -> Result<Vec<Export<'a>>, NoMemory>
-    ensures { IfOk result (λ wanted. plain_exports wanted.items ≡ map what_it_wants (filter (spec.may_come_from (option_copied soname.entry)) (plain_imports imports.now))) }
+    ensures read { IfOk result (λ wanted. plain_exports wanted.items ≡ map what_it_wants (filter (spec.may_come_from (option_copied soname.entry)) (plain_imports imports.now))) }
+    ensures named { IfErr result (λ e. e ≡ Allocation) }
 {
     let mut wanted = Vec::new(alloc);
     for import in imports {
@@ -66,7 +68,8 @@ fn wanted_of<'a>(
 
 // The set of the positions found.
 fn found_places(alloc: Global, places: &[Option<usize>]) -> Result<HashSet<usize>, NoMemory>
-    ensures { IfOk result (λ found. (k : ℕ) → contains nat_eq found k ≡ list_any (is_at k) places.now) }
+    ensures read { IfOk result (λ found. (k : ℕ) → contains nat_eq found k ≡ list_any (is_at k) places.now) }
+    ensures named { IfErr result (λ e. e ≡ Allocation) }
 {
     let mut found = HashSet::new(alloc);
     for place in places {
@@ -80,7 +83,8 @@ fn found_places(alloc: Global, places: &[Option<usize>]) -> Result<HashSet<usize
 // For each of this many positions, whether it was found.
 #[tactic(auto, using(crate::proofs::Places::marked_more))]
 fn marked(alloc: Global, found: &HashSet<usize>, count: usize) -> Result<Vec<bool>, NoMemory>
-    ensures { IfOk result (λ marked. marked.items ≡ map (contains nat_eq found.now) (range_with_len 0 count)) }
+    ensures read { IfOk result (λ marked. marked.items ≡ map (contains nat_eq found.now) (range_with_len 0 count)) }
+    ensures named { IfErr result (λ e. e ≡ Allocation) }
 {
     let mut marked = Vec::new(alloc);
     for place in 0..count {

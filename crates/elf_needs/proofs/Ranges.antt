@@ -1,10 +1,9 @@
 -- Lists of numbers.
 use Rattle.std.proofs.Common.{◌≡◌, ℕ, zero, suc, ◌+◌, ◌<◌, Bool, true, false, List, [], ◌∷◌, ◌++◌, map, refl, sym, ◌∙◌, ap, arith}
-use Rattle.std.specs.Prelude.{◌||◌}
 use Rattle.std.specs.List.{range_with_len, list_any}
 use Rattle.std.proofs.lemmas.List.Folds.{list_any-append}
 use Rattle.std.proofs.lemmas.List.FromFn.{map-range_with_len_more}
-use Rattle.abi_base.proofs.lemmas.Ranges.{below_more, range_more}
+use Rattle.abi_base.proofs.lemmas.Ranges.{below_more}
 use Rattle.abi_base.proofs.lemmas.Bools.{or_true}
 
 any_along : (p : ℕ → Bool) (a n j : ℕ) → j < n → p (a + j) ≡ true → list_any p (range_with_len a n) ≡ true

@@ -3,3 +3,5 @@ mod PatternLemmas
 mod SectionLemmas
 mod ReadingLemmas
 mod FirstLemmas
+pub mod lemmas
+mod ClassLemmas

@@ -1,16 +1,23 @@
 -- Lines that were read, up to a place.
 use Rattle.std.proofs.Common.{◌≡◌, ◌<◌, ◌≤◌, ◌+◌, ◌-◌, ℕ, suc, List, [], ◌∷◌, ◌++◌, length, take, drop, get_or, map, Option, Some, None, refl, sym, ◌∙◌, ap, subst, arith}
-use Rattle.std.specs.List.{range_with_len}
+use Rattle.std.specs.Prelude.{◌^◌, min}
+use Rattle.std.specs.List.{range_with_len, sum_by}
 use Rattle.std.specs.Str.Lines.{lines}
 use Rattle.std.proofs.lemmas.List.{drop_more, get_or-map, take_more, take_all, length-drop, length-map, length-take-le}
+use Rattle.std.proofs.lemmas.List.Sums.{sum_by-take-le, sum_by_push}
 use Rattle.abi_base.specs.declared.fault.Fault.{Fault}
 use Rattle.abi_base.specs.declared.fault.Refusal.{Refusal}
 use Rattle.abi_base.specs.declared.fault.Refusal.TheVariants as refusal
+use Rattle.abi_base.specs.declared.limit.Limit.TheVariants.{PatternClasses}
+use Rattle.abi_base.specs.Budgets.{BudgetState, with_taken}
 use Rattle.abi_base.specs.Outcome.{first, Refuses}
+use Rattle.abi_base.proofs.lemmas.Filtered.{SpentOn, spent_again}
+use Rattle.suppression_text.specs.Classes.{classes_of, classes_allowed, file_classes}
 use Rattle.suppression_text.specs.Lines.{Form, Comment, form_of, forms_of}
 use Rattle.suppression_text.specs.Rules.{PlainSection, sections_of, sections_from}
 use Rattle.suppression_text.specs.Faults.{last_of, form_fault, line_fault, line_faults, section_fault, text_fault, rule_fault}
 use Rattle.suppression_text.specs.Steps.{with_form}
+use Rattle.suppression_text.proofs.lemmas.Capped.{above_cap, fits_below}
 use Rattle.suppression_text.proofs.SectionLemmas.{AreKnown, AreKnown-more, sections-more}
 
 -- ---- the first fault of places in order
@@ -139,3 +146,53 @@ pub fault_of_section : (bytes : List ℕ) (sections : List PlainSection) → tex
 unfolding rule_fault
 fault_of_section bytes sections text line is =
     rw text (first-append (line_faults (forms_of bytes)) (map section_fault (sections_of (forms_of bytes))) line ∙ ap (λ (ss : List PlainSection). first (map section_fault ss)) (sym is))
+
+-- ---- the classes of lines
+
+-- the line that is read next stands behind those that were read
+pub next_taken : (bytes left rest line : List ℕ) (k : ℕ) (sections : List PlainSection) → IsReading bytes left k sections → lines left ≡ line ∷ lines rest
+    → take (k + 1) (lines bytes) ≡ take k (lines bytes) ++ line ∷ []
+next_taken bytes left rest line k sections was is =
+    let e : drop k (lines bytes) ≡ line ∷ lines rest = was.ahead ∙ is in
+    let size : length (lines bytes) - k ≡ suc (length (lines rest)) = sym (length-drop k (lines bytes)) ∙ ap length e in
+    let lt : k < length (lines bytes) = omega (arith, size) in
+    let more : get_or (lines bytes) k [] ∷ drop (k + 1) (lines bytes) ≡ line ∷ lines rest = sym (drop_more (lines bytes) k [] lt) ∙ e in
+    let first_is : get_or (lines bytes) k [] ≡ line = cc in
+    take_more (lines bytes) k [] lt ∙ ap (λ (l : List ℕ). take k (lines bytes) ++ l ∷ []) first_is
+
+pub classes_more : (bytes left rest line : List ℕ) (k : ℕ) (sections : List PlainSection) → IsReading bytes left k sections → lines left ≡ line ∷ lines rest
+    → sum_by classes_of (take (k + 1) (lines bytes)) ≡ sum_by classes_of (take k (lines bytes)) + classes_of line
+classes_more bytes left rest line k sections was is =
+    ap (λ (l : List (List ℕ)). sum_by classes_of l) (next_taken bytes left rest line k sections was is) ∙ sum_by_push classes_of (take k (lines bytes)) line
+
+-- where the classes of the next line pass the limit, those of the file do
+pub classes_past : (bytes left rest line : List ℕ) (k : ℕ) (sections : List PlainSection) (budget : BudgetState) (n : ℕ) → IsReading bytes left k sections → lines left ≡ line ∷ lines rest
+    → SpentOn PatternClasses 0 (sum_by classes_of (take k (lines bytes))) budget → n ≡ min (classes_of line) (2 ^ 64 - 1) → budget.most < budget.taken + n → classes_allowed < file_classes bytes
+classes_past bytes left rest line k sections budget n was is spent capped above =
+    omega (
+      arith,
+      above_cap (classes_of line) (2 ^ 64 - 1) budget.most budget.taken (subst (λ (c : ℕ). budget.most < budget.taken + c) capped above),
+      spent.most,
+      spent.taken,
+      classes_more bytes left rest line k sections was is,
+      sum_by-take-le classes_of (lines bytes) (k + 1),
+    )
+
+-- the classes of the next line were taken
+pub classes_spent : (bytes left rest line : List ℕ) (k : ℕ) (sections : List PlainSection) (budget next : BudgetState) (n : ℕ) → IsReading bytes left k sections → lines left ≡ line ∷ lines rest
+    → SpentOn PatternClasses 0 (sum_by classes_of (take k (lines bytes))) budget → n ≡ min (classes_of line) (2 ^ 64 - 1) → budget.taken + n ≤ budget.most → next ≡ with_taken budget n
+    → SpentOn PatternClasses 0 (sum_by classes_of (take (k + 1) (lines bytes))) next
+classes_spent bytes left rest line k sections budget next n was is spent capped fits took =
+    let exact : min (classes_of line) (2 ^ 64 - 1) ≡ classes_of line =
+    fits_below (classes_of line) (2 ^ 64 - 1) budget.most budget.taken (subst (λ (c : ℕ). budget.taken + c ≤ budget.most) capped fits) (omega (arith, spent.most)) in
+    spent_again PatternClasses 0 (sum_by classes_of (take k (lines bytes))) n (sum_by classes_of (take (k + 1) (lines bytes))) budget next spent fits took
+    (classes_more bytes left rest line k sections was is ∙ ap (λ (c : ℕ). sum_by classes_of (take k (lines bytes)) + c) (sym (capped ∙ exact)))
+
+-- all lines were read
+pub classes_whole : (bytes left : List ℕ) (k : ℕ) (sections : List PlainSection) (budget : BudgetState) → IsReading bytes left k sections → lines left ≡ []
+    → SpentOn PatternClasses 0 (sum_by classes_of (take k (lines bytes))) budget → file_classes bytes ≤ classes_allowed
+unfolding forms_of
+classes_whole bytes left k sections budget was none spent =
+    let all : take k (lines bytes) ≡ lines bytes = take_all k (lines bytes) (subst (λ (n : ℕ). n ≤ k) (length-map (lines bytes) form_of) (all_read bytes left k was.ahead none)) in
+    let e : sum_by classes_of (take k (lines bytes)) ≡ file_classes bytes = ap (λ (l : List (List ℕ)). sum_by classes_of l) all in
+    omega (arith, e, spent.within, spent.most, spent.taken)

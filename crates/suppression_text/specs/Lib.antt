@@ -9,3 +9,4 @@ pub mod Passing
 pub mod Faults
 pub mod Steps
 pub mod FirstFaults
+pub mod Classes

@@ -1,7 +1,7 @@
 // The faults of the lines of a rule file, each in its section.
-ghost use Rattle.std.specs.Prelude.{◌≡◌, ◌<◌, ◌≤◌, ◌+◌, ◌++◌, [], length, count_by, IfOk, OnOk};
+ghost use Rattle.std.specs.Prelude.{◌≡◌, ◌<◌, ◌≤◌, ◌+◌, ◌++◌, [], length, count_by, IfErr, IfOk, OnOk};
 ghost use Rattle.abi_base.specs.declared.fault.FaultKind.TheVariants as kind;
-ghost use Rattle.abi_base.specs.Outcome.{Judges};
+ghost use Rattle.abi_base.specs.Outcome.{Judges, OnPast};
 ghost use Rattle.suppression_text.specs.Keys as keys;
 ghost use Rattle.suppression_text.specs.Lines.{is_feed};
 ghost use Rattle.suppression_text.specs.PlainLines.{plain_line};
@@ -98,6 +98,7 @@ fn read_property(
 ) -> Result<Property, Refusal>
     ensures property { IfOk result (λ property. property ≡ plain_property key value.now) }
     ensures fault { Judges result (key_fault number section.now key value.now) }
+    ensures past { IfErr result (λ e. OnPast e (λ l. ⊥)) }
 {
     if let Some(fault) = fault_before_pattern(number, section, key, value) {
         return Err(Refusal::Fault(fault));
@@ -119,6 +120,7 @@ fn put_property(
 ) -> Result<(), Refusal>
     ensures put { OnOk result (sections.new.items ≡ with_properties sections.old.items (last_of sections.old.items) (keyed (keys.key_named name.now) value.now)) }
     ensures fault { Judges result (property_fault number (last_of sections.old.items) name.now value.now) }
+    ensures past { IfErr result (λ e. OnPast e (λ l. ⊥)) }
 {
     if name.is_empty() || value.is_empty() || sections.is_empty() {
         return Err(Refusal::Fault(fault(FaultKind::RuleLine, number)));
@@ -141,6 +143,7 @@ fn put_head(
 ) -> Result<(), Refusal>
     ensures put { OnOk result (sections.new.items ≡ sections.old.items ++ headed number (keys.section_named name.now) []) }
     ensures fault { Judges result (head_fault number name.now) }
+    ensures past { IfErr result (λ e. OnPast e (λ l. ⊥)) }
 {
     match section_named(name) {
         None => Err(Refusal::Fault(fault(FaultKind::Section, number))),
@@ -151,7 +154,7 @@ fn put_head(
     }
 }
 
-/// Reads one more line; the sections are those of the lines before it. Returns the fault of the line if it has one.
+/// Reads one more line; the sections are those of the lines before it. Returns the fault of the line if it has one. Passes no limit.
 pub fn read_line(
     alloc: Global,
     sections: &mut Vec<Section>,
@@ -160,6 +163,7 @@ pub fn read_line(
 ) -> Result<(), Refusal>
     ensures put { OnOk result (sections.new.items ≡ with_form number sections.old.items (plain_line line.entry)) }
     ensures fault { Judges result (form_fault number (last_of sections.old.items) (plain_line line.entry)) }
+    ensures past { IfErr result (λ e. OnPast e (λ l. ⊥)) }
 {
     match line {
         Line::Comment => Ok(()),

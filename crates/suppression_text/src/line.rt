@@ -36,7 +36,7 @@ fn before(text: &[u8], at: usize) -> &[u8]
 }
 
 // The bytes from a position on.
-fn from(text: &[u8], at: usize) -> &[u8]
+pub(crate) fn from(text: &[u8], at: usize) -> &[u8]
     requires { at ≤ length text.now }
     ensures { result.now ≡ drop at text.now }
 {
@@ -51,7 +51,7 @@ fn feed_in(text: &[u8]) -> Option<usize>
 }
 
 // The position of the first `=`.
-fn equals_in(text: &[u8]) -> Option<usize>
+pub(crate) fn equals_in(text: &[u8]) -> Option<usize>
     ensures { result ≡ position is_equals text.now }
 {
     text.iter().position(|byte| *byte == b'=')

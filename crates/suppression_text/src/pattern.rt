@@ -1,5 +1,6 @@
 // Patterns: regular expressions over bytes.
-ghost use Rattle.std.specs.Prelude.{◌≡◌, IfOk, IfSome, IfNone, true, false};
+ghost use Rattle.std.specs.Prelude.{◌≡◌, IfErr, IfOk, IfSome, IfNone, true, false};
+ghost use Rattle.abi_base.specs.declared.fault.NoMemory.TheVariants.{Allocation};
 ghost use Rattle.std.specs.Str.{is_utf8};
 ghost use Rattle.suppression_text.specs.Patterns as spec;
 
@@ -51,7 +52,8 @@ fn bytes_config() -> Config
 /// Whether a text is a pattern: the grammar of `regex` accepts it, and its nesting depth is within the limit of `regex`. The text
 /// is not compiled.
 pub fn is_pattern(alloc: Global, text: &[u8]) -> Result<bool, NoMemory>
-    ensures { IfOk result (λ is. is ≡ spec.is_pattern text.now) }
+    ensures read { IfOk result (λ is. is ≡ spec.is_pattern text.now) }
+    ensures named { IfErr result (λ e. e ≡ Allocation) }
 {
     let Some(source) = text_in(text) else {
         return Ok(false);
@@ -72,7 +74,8 @@ impl Pattern {
     /// Compiles a pattern. Returns `NoMemory` if memory runs out, if the compiled pattern would exceed the limit of `regex`, or if
     /// the text is not a pattern.
     pub fn compile(alloc: Global, text: &[u8]) -> Result<Pattern, NoMemory>
-        ensures { IfOk result (λ pattern. pattern ≡ text.now) }
+        ensures text { IfOk result (λ pattern. pattern ≡ text.now) }
+        ensures named { IfErr result (λ e. e ≡ Allocation) }
     {
         let Some(source) = text_in(text) else {
             return Err(NoMemory::Allocation);
@@ -92,7 +95,8 @@ impl Pattern {
 
     /// A searcher for the pattern.
     pub fn finder(&self, alloc: Global) -> Result<Finder<'_>, NoMemory>
-        ensures { IfOk result (λ finder. finder ≡ self.now) }
+        ensures text { IfOk result (λ finder. finder ≡ self.now) }
+        ensures named { IfErr result (λ e. e ≡ Allocation) }
     {
         let text = self.text();
         let matcher = self.regex.matcher(alloc)?;

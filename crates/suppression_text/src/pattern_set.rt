@@ -1,5 +1,6 @@
 //! Patterns that are searched for together.
-ghost use Rattle.std.specs.Prelude.{◌≡◌, true, map, All, IfOk};
+ghost use Rattle.std.specs.Prelude.{◌≡◌, true, map, All, IfErr, IfOk};
+ghost use Rattle.abi_base.specs.declared.fault.NoMemory.TheVariants.{Allocation};
 ghost use Rattle.std.specs.Str.{is_utf8};
 ghost use Rattle.suppression_text.specs.Patterns as spec;
 
@@ -32,6 +33,7 @@ impl Model for PatternSet {
 fn texts_in<'t>(alloc: Global, all: &[&'t [u8]]) -> Result<Vec<&'t str>, NoMemory>
     ensures texts { IfOk result (λ texts. map (λ text. text.now) texts.items ≡ map (λ bytes. bytes.now) all.now) }
     ensures utf8 { IfOk result (λ texts. All (λ text. is_utf8 text.now ≡ true) texts.items) }
+    ensures named { IfErr result (λ e. e ≡ Allocation) }
 {
     let mut texts = Vec::with_capacity(alloc, all.len())?;
     for bytes in all {
@@ -47,7 +49,8 @@ impl PatternSet {
     /// Compiles patterns. Returns `NoMemory` if memory runs out, if a compiled pattern would exceed the limit of `regex`, or if a text
     /// is not a pattern.
     pub fn compile(alloc: Global, texts: &[&[u8]]) -> Result<PatternSet, NoMemory>
-        ensures { IfOk result (λ set. set ≡ map (λ text. text.now) texts.now) }
+        ensures texts { IfOk result (λ set. set ≡ map (λ text. text.now) texts.now) }
+        ensures named { IfErr result (λ e. e ≡ Allocation) }
     {
         let sources = texts_in(alloc, texts)?;
         match RegexSet::new(alloc, sources.as_slice()) {
@@ -58,7 +61,8 @@ impl PatternSet {
 
     /// A searcher for the patterns.
     pub fn finder(&self, alloc: Global) -> Result<SetFinder<'_>, NoMemory>
-        ensures { IfOk result (λ finder. finder ≡ self.now) }
+        ensures texts { IfOk result (λ finder. finder ≡ self.now) }
+        ensures named { IfErr result (λ e. e ≡ Allocation) }
     {
         let matcher = self.set.matcher(alloc)?;
         Ok(SetFinder { set: self, matcher })

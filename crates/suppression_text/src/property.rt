@@ -1,5 +1,6 @@
 // The properties of sections, and the tests of bytes for their values.
-ghost use Rattle.std.specs.Prelude.{◌≡◌, true, false, IfOk, IfSome, IfNone};
+ghost use Rattle.std.specs.Prelude.{◌≡◌, true, false, IfErr, IfOk, IfSome, IfNone};
+ghost use Rattle.abi_base.specs.declared.fault.NoMemory.TheVariants.{Allocation};
 ghost use Rattle.suppression_text.specs.Passing as spec;
 ghost use Rattle.suppression_text.specs.Rules.{plain_property};
 ghost use Rattle.suppression_text.specs.Patterns.{is_no_pattern};
@@ -33,6 +34,7 @@ impl Property {
         ensures value { IfOk result (λ read. IfSome read (λ property. property ≡ plain_property key text.now)) }
         ensures some { IfOk result (λ read. IfSome read (λ _. is_no_pattern key text.now ≡ false)) }
         ensures none { IfOk result (λ read. IfNone read (is_no_pattern key text.now ≡ true)) }
+        ensures named { IfErr result (λ e. e ≡ Allocation) }
     {
         if has_pattern(key) && !is_pattern(alloc, text)? {
             return Ok(None);
@@ -65,7 +67,8 @@ impl Property {
     /// The property with its pattern compiled. Returns `NoMemory` if memory runs out, or if the compiled pattern would exceed the
     /// limit of `regex`.
     pub fn compiled(&self, alloc: Global) -> Result<CompiledProperty<'_>, NoMemory>
-        ensures { IfOk result (λ compiled. compiled ≡ self.now) }
+        ensures same { IfOk result (λ compiled. compiled ≡ self.now) }
+        ensures named { IfErr result (λ e. e ≡ Allocation) }
     {
         let key = self.key;
         let text = self.value.as_slice();
@@ -112,7 +115,8 @@ impl<'r> Model for CompiledProperty<'r> {
 impl<'r> CompiledProperty<'r> {
     /// A test of bytes for the value of the property.
     pub fn test(&self, alloc: Global) -> Result<Test<'_>, NoMemory>
-        ensures { IfOk result (λ test. test ≡ self.now) }
+        ensures same { IfOk result (λ test. test ≡ self.now) }
+        ensures named { IfErr result (λ e. e ≡ Allocation) }
     {
         let key = self.key;
         match &self.value {

@@ -1,5 +1,6 @@
 // The sections of a rule file.
-ghost use Rattle.std.specs.Prelude.{◌≡◌, ◌∷◌, ◌++◌, [], map, OnOk, OnErr};
+ghost use Rattle.std.specs.Prelude.{◌≡◌, ◌∷◌, ◌++◌, [], map, IfErr, OnOk, OnErr};
+ghost use Rattle.abi_base.specs.declared.fault.NoMemory.TheVariants.{Allocation};
 ghost use Rattle.abi_base.specs.Outcome.{first};
 ghost use Rattle.suppression_text.specs.Keys.{same_key};
 ghost use Rattle.suppression_text.specs.Keys as keys;
@@ -103,6 +104,7 @@ impl Section {
     pub fn push(&mut self, property: Property) -> Result<(), NoMemory>
         ensures ok { OnOk result (self.new ≡ with_property self.old property) }
         ensures err { OnErr result (self.new ≡ self.old) }
+        ensures named { IfErr result (λ e. e ≡ Allocation) }
     {
         self.properties.push(property)?;
         Ok(())

@@ -8,6 +8,7 @@ pub mod laws;
 mod reading;
 mod version;
 
+pub use indexes::{index_at, index_table};
 pub use kept::Versions;
 pub use reading::versions;
 pub use version::Version;

@@ -2,7 +2,7 @@ use Rattle.std.proofs.Common.{◌≡◌, ◌∙◌, ◌+◌, ◌/◌, refl, sym,
 use Rattle.std.proofs.lemmas.Result.{err_from_is_err_and}
 use Rattle.abi_base.specs.Elf.{sym_size}
 use Rattle.elf.specs.symbols.Symbols.{symbol_name_fault}
-use Rattle.abi_base.proofs.lemmas.Budgets.{spent_none, spent_more, spent_past, spent_whole}
+use Rattle.abi_base.proofs.lemmas.Budgets.{spent_more, spent_past, spent_whole}
 use Rattle.abi_base.proofs.lemmas.Outcomes.{first_from-here}
 use Rattle.abi_base.specs.declared.limit.Limit.TheVariants.{Symbols}
 use Rattle.elf.proofs.symbols_lemmas.Counting.{cost_of, cost_is, fault_reached, counted_past, counted_within}
