@@ -1,5 +1,7 @@
 // Call shapes: where a call passes its result and its arguments.
-ghost use Rattle.std.specs.Prelude.{◌≡◌, ◌<◌, length, IfOk};
+ghost use Rattle.std.specs.Prelude.{◌≡◌, ◌<◌, length, IfErr, IfOk};
+ghost use Rattle.abi_base.specs.Outcome.{OnLimit};
+ghost use Rattle.abi_base.specs.declared.limit.Limit.TheVariants.{Leaves};
 ghost use Rattle.psabi.specs.Calls.{call_of, calls_of};
 ghost use Rattle.psabi.specs.Found.{IsRight};
 
@@ -22,8 +24,11 @@ fn shape_with<Ix: Index>(
 ) -> Result<Call, NoMemory>
     requires inside { Ix.number_of ix < length graph.now }
     requires right { IsRight graph.now found.now }
+    requires limit { walks.old.budget.limit ≡ Leaves }
     ensures right { IsRight graph.now found.new }
+    ensures limit { walks.new.budget.limit ≡ Leaves }
     ensures shape { IfOk result (λ shape. shape ≡ call_of graph.now (Ix.number_of ix)) }
+    ensures past { IfErr result (λ e. OnLimit e (λ l. l ≡ Leaves)) }
 {
     graph.known();
     let view = graph.view(ix);
@@ -44,10 +49,11 @@ fn shape_with<Ix: Index>(
 }
 
 /// Where a call of the node's function passes its result and its arguments; no places if the node is not a function. Fails only
-/// where memory runs out, or where the walks to leaves would take more steps than 64 for each node plus 65,536.
+/// where memory runs out, or where the walks to leaves would take more steps than the limit on leaves allows for the nodes.
 pub fn call_shape<Ix: Index>(alloc: Global, graph: &Graph<Ix>, ix: Ix) -> Result<Call, NoMemory>
     requires { Ix.number_of ix < length graph.now }
-    ensures { IfOk result (λ shape. shape ≡ call_of graph.now (Ix.number_of ix)) }
+    ensures shape { IfOk result (λ shape. shape ≡ call_of graph.now (Ix.number_of ix)) }
+    ensures past { IfErr result (λ e. OnLimit e (λ l. l ≡ Leaves)) }
 {
     let mut found = room_for(alloc, graph.len())?;
     let mut walks = Walks::over(alloc, graph)?;
@@ -55,10 +61,11 @@ pub fn call_shape<Ix: Index>(alloc: Global, graph: &Graph<Ix>, ix: Ix) -> Result
 }
 
 /// The call shapes of all nodes, each at its node's number. Computes the alignment and the classes of each type once for all calls.
-/// Fails only where memory runs out, or where the walks to leaves would take more steps than 64 for each node plus 65,536.
+/// Fails only where memory runs out, or where the walks to leaves would take more steps than the limit on leaves allows for the nodes.
 pub fn call_shapes<Ix: Index>(alloc: Global, graph: &Graph<Ix>) -> Result<List<Call>, NoMemory>
     ensures shapes { IfOk result (λ shapes. shapes ≡ calls_of graph.now) }
     ensures many { IfOk result (λ shapes. length shapes ≡ length graph.now) }
+    ensures past { IfErr result (λ e. OnLimit e (λ l. l ≡ Leaves)) }
 {
     let mut room = room_for(alloc, graph.len())?;
     let found = room.as_mut_slice();

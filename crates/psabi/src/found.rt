@@ -1,5 +1,6 @@
 // Results for types, stored so that a type in many others is computed only once.
-ghost use Rattle.std.specs.Prelude.{◌≡◌, ◌<◌, ℕ, length, slice_index_or, IfOk, IfSome};
+ghost use Rattle.std.specs.Prelude.{◌≡◌, ◌<◌, ℕ, length, slice_index_or, IfErr, IfOk, IfSome};
+ghost use Rattle.abi_base.specs.declared.fault.NoMemory.TheVariants.{Allocation};
 ghost use Rattle.psabi.specs.Alignment.{align_of};
 ghost use Rattle.psabi.specs.Classes.{classes_of};
 ghost use Rattle.psabi.specs.Found.{IsRight};
@@ -35,7 +36,8 @@ fn nothing_found() -> Found
 
 /// A table for this many nodes by number, without results.
 pub fn room_for(alloc: Global, len: usize) -> Result<Vec<Found>, NoMemory>
-    ensures { IfOk result (λ found. (i : ℕ) → slice_index_or found.items i spec.nothing_found ≡ spec.nothing_found) }
+    ensures found { IfOk result (λ found. (i : ℕ) → slice_index_or found.items i spec.nothing_found ≡ spec.nothing_found) }
+    ensures named { IfErr result (λ e. e ≡ Allocation) }
 {
     let mut found = Vec::new(alloc);
     for _k in 0..len {

@@ -1,38 +1,25 @@
 // A budget for the walks to the leaves of objects. Types can contain one another many times over, so a few of them can have far
 // more leaves than the file has bytes. Steps are therefore counted before they are taken.
-ghost use Rattle.std.specs.Prelude.{◌≡◌, ◌<◌, ◌≤◌, ◌+◌, ◌-◌, ◌*◌, ◌^◌, ℕ, min, length, IfOk};
+ghost use Rattle.std.specs.Prelude.{◌≡◌, ◌<◌, length, IfErr, IfOk};
+ghost use Rattle.abi_base.specs.Outcome.{OnLimit};
+ghost use Rattle.abi_base.specs.declared.fault.NoMemory.TheVariants.{Allocation};
+ghost use Rattle.abi_base.specs.declared.limit.Limit.TheVariants.{Leaves};
 ghost use Rattle.psabi.specs.Found.{IsRight};
 
 use crate::found::{Found, found_at};
 use crate::kinds::is_aggregate;
 use crate::overlong_members::ends_past;
 use crate::sizes::OBJECT_LIMIT;
-use abi_base::{Limit, NoMemory};
+use abi_base::{Budget, Limit, NoMemory};
 use abi_types::{Graph, Index, Kind, View};
 use std::alloc::Global;
-use std::marker::Model;
 
-/// How many steps the walks of a library may take for each of its nodes. An object in registers has at most 64 bytes, so few
-/// types have more leaves, and few types are passed by value at all.
-const STEPS_A_NODE: u64 = 64;
-
-/// How many more steps they may take, however few nodes there are.
-const STEPS_AT_LEAST: u64 = 16_777_216;
-
-/// The steps that walks need, and the steps that remain. Contracts see the number of the latter.
+/// The steps that walks need, and what is taken of the limit on them.
 #[derive(Drop)]
 pub struct Walks {
     // For each node the number of steps of the walk over its object, or 0 where it is not known yet.
     steps: Vec<u64>,
-    left: u64,
-}
-
-impl Model for Walks {
-    ghost use Rattle.std.specs.Prelude.{ℕ};
-
-    ghost Value = { ℕ };
-
-    ghost view = { λ walks. walks.left };
+    budget: Budget,
 }
 
 // The number of steps of the walk over the node's object, or 0 if it is not known yet.
@@ -91,18 +78,17 @@ fn steps_of<Ix: Index>(graph: &Graph<Ix>, ix: Ix, steps: &mut [u64]) -> u64
 impl Walks {
     /// The walks over the objects of a graph, before the first one.
     pub fn over<Ix: Index>(alloc: Global, graph: &Graph<Ix>) -> Result<Walks, NoMemory>
-        ensures { IfOk result (λ walks. walks ≡ min (64 * length graph.now + 16777216) (2 ^ 64 - 1)) }
+        ensures limit { IfOk result (λ walks. walks.budget.limit ≡ Leaves) }
+        ensures named { IfErr result (λ e. e ≡ Allocation) }
     {
         let steps = Vec::from_elem(alloc, 0, graph.len())?;
-        let most = (graph.len() as u64).saturating_mul(STEPS_A_NODE);
         Ok(Walks {
             steps,
-            left: most.saturating_add(STEPS_AT_LEAST),
+            budget: Budget::of_many(Limit::Leaves, graph.len()),
         })
     }
 
-    // Spends the steps of the walk over the node's object, if its classes need one and are not known. Fails where fewer steps
-    // remain.
+    // Takes the steps of the walk over the node's object, if its classes need one and are not known.
     fn take<Ix: Index>(
         &mut self,
         graph: &Graph<Ix>,
@@ -112,7 +98,8 @@ impl Walks {
         requires inside { Ix.number_of ix < length graph.now }
         requires right { IsRight graph.now found.now }
         ensures right { IsRight graph.now found.new }
-        ensures falls { self.new ≤ self.old }
+        ensures limit { self.new.budget.limit ≡ self.old.budget.limit }
+        ensures past { IfErr result (λ e. OnLimit e (λ l. l ≡ self.old.budget.limit)) }
     {
         let view = graph.view(ix);
         if view.size > OBJECT_LIMIT || !is_aggregate(view.kind) {
@@ -125,14 +112,10 @@ impl Walks {
             return Ok(());
         }
         let steps = steps_of(graph, ix, self.steps.as_mut_slice());
-        if steps > self.left {
-            return Err(NoMemory::Past(Limit::Leaves));
-        }
-        self.left -= steps;
-        Ok(())
+        self.budget.take(steps as usize)
     }
 
-    /// Spends the steps of the walks over all objects that a call of the node's function passes. Fails where fewer steps remain.
+    /// Takes the steps of the walks over all objects that a call of the node's function passes.
     pub fn take_all<Ix: Index>(
         &mut self,
         graph: &Graph<Ix>,
@@ -142,7 +125,8 @@ impl Walks {
         requires inside { Ix.number_of ix < length graph.now }
         requires right { IsRight graph.now found.now }
         ensures right { IsRight graph.now found.new }
-        ensures falls { self.new ≤ self.old }
+        ensures limit { self.new.budget.limit ≡ self.old.budget.limit }
+        ensures past { IfErr result (λ e. OnLimit e (λ l. l ≡ self.old.budget.limit)) }
     {
         graph.known();
         let view = graph.view(ix);

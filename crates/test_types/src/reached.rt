@@ -31,7 +31,7 @@ fn facts_of(alloc: Global, dwarf: &Dwarf, e: EntryNumber) -> Result<Option<Facts
     requires { e < length dwarf.now.tree.entries }
 {
     let found = reached(alloc, dwarf, &[e])?;
-    let leads = type_references_of(alloc, dwarf, &found, dwarf.len())?;
+    let leads = type_references_of(alloc, dwarf, &found, 0)?;
     let all = learn_all(alloc, dwarf, &found, &leads)?;
     match found.number(e) {
         Some(number) => Ok(all.get(number).copied()),

@@ -1,14 +1,14 @@
 -- How many letters the names have that each member gives.
-use Rattle.std.proofs.Common.{◌≡◌, ◌<◌, ◌≤◌, ◌+◌, ℕ, List, [], ◌∷◌, length, map, take, get_or, Some, None, refl, sym, ◌∙◌, ap, arith}
+use Rattle.std.proofs.Common.{◌≡◌, ◌+◌, ℕ, List, [], ◌∷◌, length, map, Option, Some, None, refl, sym, ◌∙◌, ap, arith}
 use Rattle.std.specs.Prelude.{sum_by, flat_map, ℤ, pos}
-use Rattle.std.proofs.lemmas.List.{take_all}
-use Rattle.std.proofs.lemmas.List.Sums.{sum_by-cons, sum_by-append, sum_by_more}
+use Rattle.std.proofs.lemmas.List.Sums.{sum_by-cons, sum_by-append}
 use Rattle.dwarf_entries.specs.Chains.{name_of}
 use Rattle.dwarf_entries.specs.Debug.{PlainDwarf}
 use Rattle.type_reach.specs.References.{type_of, members_of}
 use Rattle.type_reach.specs.Facts.{facts_of}
 use Rattle.type_reach.specs.Summaries.{summary_of}
-use Rattle.type_reach.specs.Flat.{Flat, moved, flat_of, member_gives}
+use Rattle.type_reach.specs.Placement.{width_of}
+use Rattle.type_reach.specs.Flat.{Flat, moved, declared_bit, given_by, flat_of, member_gives}
 use Rattle.type_reach.specs.PeeledCores.{StandsForNone}
 use Rattle.type_reach.specs.TypeLaws.{IsShallow, TypeLaws}
 use Rattle.type_graph.specs.Counts.{member_letters}
@@ -40,16 +40,16 @@ pub nothing-letters : (d : PlainDwarf) → TypeLaws d → (m : ℕ) → IsShallo
 nothing-letters d laws m shallow none replaced =
     sym (letters-moved (pos 0) (member_gives d m)) ∙ ap member_letters (gives-nothing d laws m (pos 0) shallow none replaced)
 
--- one more: the number that is left falls by what this one has
-pub less-more : (f : ℕ → ℕ) (xs : List ℕ) (k rest next left : ℕ) → k < length xs → next + f (get_or xs k 0) ≤ rest → rest + sum_by f (take k xs) ≤ left → next + sum_by f (take (k + 1) xs) ≤ left
-less-more f xs k rest next left lt step was =
-    let more = sum_by_more f xs k 0 lt in
-    omega arith
+pub letters-named : (d : PlainDwarf) (m : ℕ) (name : List ℕ) → name_of d m ≡ Some name → letters_given d m ≡ length name
+letters-named d m name is =
+    let f : Flat → ℕ = λ x. length x.name in
+    let named : Flat = record { name = name; bit = declared_bit d m; width = width_of d m; to = type_of d.tree m } in
+    let given = ap (λ (o : Option (List ℕ)). member_letters (given_by d m o (flat_of d (type_of d.tree m)))) is in
+    omega (arith, given, sum_by-cons f named [])
 
-pub less-all : (d : PlainDwarf) → TypeLaws d → (c : ℕ) (members : List ℕ) (k rest left : ℕ) → rest + sum_by (letters_given d) (take k members) ≤ left → length members ≤ k → members ≡ members_of d.tree c → IsShallow d (Some c) → StandsForNone d c
-    → rest + member_letters (flat_of d (Some c)) ≤ left
-less-all d laws c members k rest left was past is shallow last =
+-- the letters of a structure's names are those that its members give
+pub letters-is : (d : PlainDwarf) → TypeLaws d → (c : ℕ) (members : List ℕ) → members ≡ members_of d.tree c → IsShallow d (Some c) → StandsForNone d c → 0 + sum_by (letters_given d) members ≡ member_letters (flat_of d (Some c))
+letters-is d laws c members is shallow last =
     let flat : member_letters (flat_of d (Some c)) ≡ sum_by (letters_given d) members =
     ap member_letters (laws.members c shallow last) ∙ letters-of-all (member_gives d) (members_of d.tree c) ∙ ap (sum_by (letters_given d)) (sym is) in
-    let all : sum_by (letters_given d) (take k members) ≡ sum_by (letters_given d) members = ap (sum_by (letters_given d)) (take_all k members past) in
-    omega arith
+    omega (arith, flat)

@@ -7,6 +7,9 @@ mod LabelLemmas
 mod LetterLemmas
 mod LimitLemmas
 mod ListLemmas
+mod MemberLemmas
+mod NodeCounts
 mod NodeLemmas
 mod SharingLemmas
 mod ViewLemmas
+pub mod lemmas

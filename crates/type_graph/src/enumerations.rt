@@ -1,5 +1,6 @@
 // The encodings of base types and the values of enumerators.
-ghost use Rattle.std.specs.Prelude.{◌≡◌, ◌<◌, length, All, Some, IfOk};
+ghost use Rattle.std.specs.Prelude.{◌≡◌, ◌<◌, length, All, Some, IfOk, IfErr};
+ghost use Rattle.abi_base.specs.declared.fault.NoMemory.TheVariants.{Allocation};
 ghost use Rattle.std.specs.List.{list_all};
 ghost use Rattle.abi_base.specs.Dwarf.{dw_tag_enumerator};
 ghost use Rattle.type_reach.specs.References.{tagged_children};
@@ -74,7 +75,8 @@ pub(crate) fn good_enumerators(
     e: EntryNumber,
 ) -> Result<bool, NoMemory>
     requires { e < length dwarf.now.tree.entries }
-    ensures { IfOk result (λ good. good ≡ list_all (shapes.is_good_enumerator dwarf.now.tree) (tagged_children dwarf.now.tree e dw_tag_enumerator)) }
+    ensures good { IfOk result (λ good. good ≡ list_all (shapes.is_good_enumerator dwarf.now.tree) (tagged_children dwarf.now.tree e dw_tag_enumerator)) }
+    ensures named { IfErr result (λ e. e ≡ Allocation) }
 {
     let enumerators = dwarf.tagged(alloc, e, DW_TAG_enumerator)?;
     Ok(are_good_enumerators(dwarf, enumerators.as_slice()))

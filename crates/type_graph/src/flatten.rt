@@ -1,5 +1,6 @@
 // The flat members of structures and unions.
-ghost use Rattle.std.specs.Prelude.{◌≡◌, ◌≤◌, ◌+◌, ◌∷◌, ◌++◌, [], map, Contains, Some, OnOk};
+ghost use Rattle.std.specs.Prelude.{◌≡◌, ◌≤◌, ◌+◌, ◌∷◌, ◌++◌, [], map, Contains, Some, OnOk, IfErr};
+ghost use Rattle.abi_base.specs.declared.fault.NoMemory.TheVariants.{Allocation};
 ghost use Rattle.abi_base.specs.Limits.{depth_limit};
 ghost use Rattle.type_reach.specs.ByValue.{IsClosed};
 ghost use Rattle.type_reach.specs.TypeReferences.{AreTypeReferences};
@@ -40,7 +41,8 @@ pub(crate) fn replacing(of_type: &Summary) -> Option<EntryNumber>
 
 // Appends an item.
 fn push_item<T: Drop>(items: &mut Vec<T>, item: T) -> Result<(), NoMemory>
-    ensures { OnOk result (items.new.items ≡ items.old.items ++ item ∷ []) }
+    ensures items { OnOk result (items.new.items ≡ items.old.items ++ item ∷ []) }
+    ensures named { IfErr result (λ e. e ≡ Allocation) }
 {
     items.push(item)?;
     Ok(())
@@ -59,7 +61,8 @@ pub(crate) fn push_flat<'a>(
     requires there { Contains types.now.found.now c }
     requires last { StandsForNone types.now.dwarf.now c }
     requires low { base.depth + (facts_of types.now.dwarf.now (Some c)).rank ≤ depth_limit }
-    ensures { OnOk result (plain_members out.new.items ≡ plain_members out.old.items ++ map (moved base.bit) (flat_of types.now.dwarf.now (Some c))) }
+    ensures members { OnOk result (plain_members out.new.items ≡ plain_members out.old.items ++ map (moved base.bit) (flat_of types.now.dwarf.now (Some c))) }
+    ensures named { IfErr result (λ e. e ≡ Allocation) }
 {
     laws_of_types();
     let dwarf = types.dwarf;

@@ -1,6 +1,7 @@
 // The faults of reached types: of their shapes and of their sizes, each in order of offset.
-ghost use Rattle.std.specs.Prelude.{◌≡◌, ◌<◌, length, map, All, Some, IfOk, IfSome};
-ghost use Rattle.abi_base.specs.Outcome.{first, Judges, Settles};
+ghost use Rattle.std.specs.Prelude.{◌≡◌, ◌<◌, length, map, All, Some, IfOk, IfSome, IfErr};
+ghost use Rattle.abi_base.specs.declared.fault.NoMemory.TheVariants.{Allocation};
+ghost use Rattle.abi_base.specs.Outcome.{first, Judges, OnPast, Settles};
 ghost use Rattle.type_reach.specs.References.{parts_of, types_of};
 ghost use Rattle.type_reach.specs.ByValue.{IsClosed};
 ghost use Rattle.type_reach.specs.TypeReferences.{AreTypeReferences};
@@ -34,7 +35,8 @@ fn shape_fault_of(
     requires parts_inside { All (λ p. p < length dwarf.now.tree.entries) parts.now }
     requires types { types.now ≡ types_of dwarf.now.tree e }
     requires types_inside { All (λ ty. IfSome ty (λ f. f < length dwarf.now.tree.entries)) types.now }
-    ensures { IfOk result (λ fault. fault ≡ shape_fault dwarf.now e) }
+    ensures fault { IfOk result (λ fault. fault ≡ shape_fault dwarf.now e) }
+    ensures named { IfErr result (λ e. e ≡ Allocation) }
 {
     if has_shape(alloc, dwarf, e, parts, types)? {
         return Ok(None);
@@ -54,7 +56,8 @@ pub(crate) fn ask_shapes(
 ) -> Result<(), Refusal>
     requires closed { IsClosed dwarf.now.tree found.now }
     requires leads { AreTypeReferences dwarf.now.tree found.now leads.now }
-    ensures { Judges result (first (map (shape_fault dwarf.now) found.now)) }
+    ensures judged { Judges result (first (map (shape_fault dwarf.now) found.now)) }
+    ensures named { IfErr result (λ e. OnPast e (λ _. ⊥)) }
 {
     'found: for number in 0..found.len() {
         let e = found.at(number);

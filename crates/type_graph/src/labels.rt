@@ -1,5 +1,6 @@
 // The names of types.
-ghost use Rattle.std.specs.Prelude.{◌≡◌, ◌<◌, ◌+◌, ◌++◌, length, map, IfOk, OnOk, IfSome, None};
+ghost use Rattle.std.specs.Prelude.{◌≡◌, ◌<◌, ◌≤◌, ◌++◌, length, map, IfErr, IfOk, OnOk, IfSome, None};
+ghost use Rattle.abi_base.specs.Outcome.{OnLimit};
 ghost use Rattle.abi_types.specs.Plain.{plain_label};
 ghost use Rattle.dwarf_entries.specs.Chains.{name_of};
 ghost use Rattle.type_reach.specs.declared.role.Role.TheVariants as role;
@@ -9,12 +10,13 @@ ghost use Rattle.type_reach.specs.TypeLaws.{IsShallow};
 ghost use Rattle.type_reach.specs.Flat.{text_or_empty, own_label};
 ghost use Rattle.type_reach.specs.Flat as flat;
 ghost use Rattle.type_graph.specs.Counts.{label_letters};
+ghost use Rattle.type_graph.specs.Spending.{PassesBy, Takes};
 
 use abi_base::dwarf::{
     DW_TAG_base_type, DW_TAG_enumeration_type, DW_TAG_structure_type, DW_TAG_typedef,
     DW_TAG_union_type,
 };
-use abi_base::{Limit, List, NoMemory, taken};
+use abi_base::{Budget, List, NoMemory};
 use abi_types::{Label, LabelKind};
 use dwarf_entries::Dwarf;
 use dwarf_tree::EntryNumber;
@@ -48,17 +50,19 @@ fn label_kind(tag: u64) -> Option<LabelKind>
     }
 }
 
-// Appends the name that an entry gives itself, if any, and takes its letters from those that are left.
+// Appends the name that an entry gives itself, if any, and takes its letters.
 #[tactic(auto, unfolding(type_reach::specs::Flat::own_label))]
 fn push_label<'a>(
     dwarf: &Dwarf<'a>,
     labels: &mut Vec<Label<'a>>,
     e: EntryNumber,
-    letters: &mut usize,
+    letters: &mut Budget,
 ) -> Result<(), NoMemory>
-    requires { e < length dwarf.now.tree.entries }
+    requires inside { e < length dwarf.now.tree.entries }
+    requires sound { letters.old.taken ≤ letters.old.most }
     ensures label { OnOk result (map plain_label labels.new.items ≡ map plain_label labels.old.items ++ own_label dwarf.now e) }
-    ensures letters { OnOk result (letters.new + label_letters (own_label dwarf.now e) ≡ letters.old) }
+    ensures letters { OnOk result (Takes letters.old letters.new (label_letters (own_label dwarf.now e))) }
+    ensures past { IfErr result (λ err. OnLimit err (PassesBy letters.old (label_letters (own_label dwarf.now e)))) }
 {
     if is_signed(dwarf, e) {
         return Ok(());
@@ -66,7 +70,7 @@ fn push_label<'a>(
     match label_kind(dwarf.tag(e)) {
         Some(kind) => {
             let name = name_or_empty(dwarf, e);
-            *letters = taken(Limit::Letters, *letters, name.len())?;
+            letters.take(name.len())?;
             // Most types have one name or none.
             labels.reserve_exact(1)?;
             labels.push(Label { kind, name })?;
@@ -89,18 +93,19 @@ fn passed_to(dwarf: &Dwarf, e: EntryNumber) -> Option<EntryNumber>
     }
 }
 
-/// The names of the typedefs from a type to its core, then the core's own. It takes their letters from those that are left, and fails
-/// where there are more.
+/// The names of the typedefs from a type to its core, then the core's own. It takes their letters.
 pub(crate) fn labels_of<'a>(
     alloc: Global,
     dwarf: &Dwarf<'a>,
     ty: Option<EntryNumber>,
-    letters: &mut usize,
+    letters: &mut Budget,
 ) -> Result<List<Label<'a>>, NoMemory>
     requires shallow { IsShallow dwarf.now ty }
     requires inside { IfSome ty (λ e. e < length dwarf.now.tree.entries) }
+    requires sound { letters.old.taken ≤ letters.old.most }
     ensures labels { IfOk result (λ labels. map plain_label labels ≡ flat.labels_of dwarf.now ty) }
-    ensures letters { OnOk result (letters.new + label_letters (flat.labels_of dwarf.now ty) ≡ letters.old) }
+    ensures letters { OnOk result (Takes letters.old letters.new (label_letters (flat.labels_of dwarf.now ty))) }
+    ensures past { IfErr result (λ e. OnLimit e (PassesBy letters.old (label_letters (flat.labels_of dwarf.now ty)))) }
 {
     laws_of_types();
     let mut labels = Vec::new(alloc);

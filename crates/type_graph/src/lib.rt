@@ -17,4 +17,3 @@ mod sharing;
 mod views;
 
 pub use graph::raw_graph;
-pub use limits::GraphLimits;

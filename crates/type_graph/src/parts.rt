@@ -1,5 +1,6 @@
 // The parts of cores: members, parameters, enumerators, and the type behind a pointer or an array.
-ghost use Rattle.std.specs.Prelude.{◌≡◌, ◌<◌, ◌∷◌, true, false, length, map, slice_get, All, Contains, Some, IfOk, IfSome};
+ghost use Rattle.std.specs.Prelude.{◌≡◌, ◌<◌, ◌∷◌, true, false, length, map, slice_get, All, Contains, Some, IfOk, IfSome, IfErr};
+ghost use Rattle.abi_base.specs.declared.fault.NoMemory.TheVariants.{Allocation};
 ghost use Rattle.std.specs.List.{list_any};
 ghost use Rattle.abi_types.specs.Parts.{plain_part};
 ghost use Rattle.abi_types.specs.Types.{Outcome};
@@ -65,7 +66,8 @@ fn member_parts<'a, Ix: Index>(
 ) -> Result<Vec<Part<'a, Ix>>, NoMemory>
     requires near { All (λ m. is_out_of_range m.bit ≡ false) members.now }
     requires there { All (λ m. IfSome m.to (λ e. Contains found.now e)) members.now }
-    ensures { IfOk result (λ parts. map (plain_part Ix.number_of) parts.items ≡ map (member_part (number_in found.now)) (plain_members members.now)) }
+    ensures parts { IfOk result (λ parts. map (plain_part Ix.number_of) parts.items ≡ map (member_part (number_in found.now)) (plain_members members.now)) }
+    ensures named { IfErr result (λ e. e ≡ Allocation) }
 {
     let mut parts = Vec::with_capacity(alloc, members.len())?;
     'members: for k in 0..members.len() {
@@ -92,7 +94,8 @@ fn aggregate_parts<'a, Ix: Index>(
     requires there { Contains types.now.found.now c }
     requires last { StandsForNone types.now.dwarf.now c }
     requires near { list_any begins_beyond (flat_of types.now.dwarf.now (Some c)) ≡ false }
-    ensures { IfOk result (λ parts. map (plain_part Ix.number_of) parts.items ≡ map (member_part (number_in types.now.found.now)) (flat_of types.now.dwarf.now (Some c))) }
+    ensures parts { IfOk result (λ parts. map (plain_part Ix.number_of) parts.items ≡ map (member_part (number_in types.now.found.now)) (flat_of types.now.dwarf.now (Some c))) }
+    ensures named { IfErr result (λ e. e ≡ Allocation) }
 {
     laws_of_types();
     let mut members = Vec::new(alloc);
@@ -112,7 +115,8 @@ fn function_parts<'a, Ix: Index>(
     requires leads { AreTypeReferences types.now.dwarf.now.tree types.now.found.now types.now.leads.now }
     requires at { slice_get types.now.found.now number ≡ Some c }
     requires role { references.role_of types.now.dwarf.now.tree c ≡ role.Function }
-    ensures { IfOk result (λ parts. map (plain_part Ix.number_of) parts.items ≡ Outcome (number_in types.now.found.now (references.type_of types.now.dwarf.now.tree c)) ∷ map (param_part (number_in types.now.found.now) types.now.dwarf.now.tree) (references.parts_of types.now.dwarf.now.tree c)) }
+    ensures parts { IfOk result (λ parts. map (plain_part Ix.number_of) parts.items ≡ Outcome (number_in types.now.found.now (references.type_of types.now.dwarf.now.tree c)) ∷ map (param_part (number_in types.now.found.now) types.now.dwarf.now.tree) (references.parts_of types.now.dwarf.now.tree c)) }
+    ensures named { IfErr result (λ e. e ≡ Allocation) }
 {
     let params = parts_at(types.dwarf, types.found, types.leads, number, c);
     let leads_to = types_at(types.dwarf, types.found, types.leads, number, c);
@@ -138,6 +142,7 @@ pub(crate) fn enumerators_of(
     requires { c < length dwarf.now.tree.entries }
     ensures enumerators { IfOk result (λ list. list.items ≡ views.enumerators_of dwarf.now.tree c) }
     ensures inside { IfOk result (λ list. All (λ e. e < length dwarf.now.tree.entries) list.items) }
+    ensures named { IfErr result (λ e. e ≡ Allocation) }
 {
     if dwarf.is_declaration(c) {
         return Ok(Vec::new(alloc));
@@ -152,7 +157,8 @@ fn enumerator_parts<'a, Ix: Index>(
     c: EntryNumber,
 ) -> Result<Vec<Part<'a, Ix>>, NoMemory>
     requires { c < length dwarf.now.tree.entries }
-    ensures { IfOk result (λ parts. map (plain_part Ix.number_of) parts.items ≡ map (enumerator_part dwarf.now) (views.enumerators_of dwarf.now.tree c)) }
+    ensures parts { IfOk result (λ parts. map (plain_part Ix.number_of) parts.items ≡ map (enumerator_part dwarf.now) (views.enumerators_of dwarf.now.tree c)) }
+    ensures named { IfErr result (λ e. e ≡ Allocation) }
 {
     let enumerators = enumerators_of(alloc, dwarf, c)?;
     let mut parts = Vec::with_capacity(alloc, enumerators.len())?;
@@ -196,7 +202,8 @@ pub(crate) fn parts_of_peeled<'a, Ix: Index>(
     requires role { role ≡ references.role_of types.now.dwarf.now.tree c }
     requires last { StandsForNone types.now.dwarf.now c }
     requires near { list_any begins_beyond (flat_of types.now.dwarf.now (Some c)) ≡ false }
-    ensures { IfOk result (λ parts. parts ≡ parts_under (references.role_of types.now.dwarf.now.tree c) (number_in types.now.found.now) types.now.dwarf.now c) }
+    ensures parts { IfOk result (λ parts. parts ≡ parts_under (references.role_of types.now.dwarf.now.tree c) (number_in types.now.found.now) types.now.dwarf.now c) }
+    ensures named { IfErr result (λ e. e ≡ Allocation) }
 {
     match role {
         Role::Aggregate => Parts::of(alloc, aggregate_parts(alloc, types, c)?),

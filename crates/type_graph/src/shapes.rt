@@ -1,5 +1,6 @@
 // Whether entries have the shape of types.
-ghost use Rattle.std.specs.Prelude.{◌≡◌, ◌<◌, length, All, IfOk, IfSome};
+ghost use Rattle.std.specs.Prelude.{◌≡◌, ◌<◌, length, All, IfOk, IfSome, IfErr};
+ghost use Rattle.abi_base.specs.declared.fault.NoMemory.TheVariants.{Allocation};
 ghost use Rattle.std.specs.List.{list_all};
 ghost use Rattle.type_reach.specs.References.{tagged_children};
 ghost use Rattle.type_reach.specs.References as references;
@@ -185,7 +186,8 @@ fn has_shape_of_role(
     requires inside { e < length dwarf.now.tree.entries }
     requires parts { parts.now ≡ references.parts_of dwarf.now.tree e }
     requires parts_inside { All (λ p. p < length dwarf.now.tree.entries) parts.now }
-    ensures { IfOk result (λ good. good ≡ has_shape_for role dwarf.now e) }
+    ensures good { IfOk result (λ good. good ≡ has_shape_for role dwarf.now e) }
+    ensures named { IfErr result (λ e. e ≡ Allocation) }
 {
     match role {
         Role::Base => Ok(has_size(dwarf, e) && group_of_encoding(dwarf, e).is_some()),
@@ -213,7 +215,8 @@ pub(crate) fn has_shape(
     requires parts_inside { All (λ p. p < length dwarf.now.tree.entries) parts.now }
     requires types { types.now ≡ references.types_of dwarf.now.tree e }
     requires types_inside { All (λ ty. IfSome ty (λ f. f < length dwarf.now.tree.entries)) types.now }
-    ensures { IfOk result (λ good. good ≡ shapes.has_shape dwarf.now e) }
+    ensures good { IfOk result (λ good. good ≡ shapes.has_shape dwarf.now e) }
+    ensures named { IfErr result (λ e. e ≡ Allocation) }
 {
     let good = has_shape_of_role(alloc, dwarf, e, role_of(dwarf, e), parts)?;
     Ok(are_types(dwarf, types) && good && is_natural_small(dwarf, e, DW_AT_alignment))

@@ -1,5 +1,6 @@
 // Nodes that share the parts of their cores.
-ghost use Rattle.std.specs.Prelude.{◌≡◌, ◌<◌, ◌+◌, set, length, IfOk, OnOk};
+ghost use Rattle.std.specs.Prelude.{◌≡◌, ◌<◌, ◌+◌, set, length, IfOk, OnOk, IfErr};
+ghost use Rattle.abi_base.specs.declared.fault.NoMemory.TheVariants.{Allocation};
 ghost use Rattle.type_reach.specs.ByValue.{IsClosed};
 ghost use Rattle.type_reach.specs.Summaries.{AreSummaries};
 ghost use Rattle.type_graph.specs.Nodes.{made_nodes};
@@ -28,7 +29,8 @@ fn share_from<'a, Ix: Index>(
 ) -> Result<(), NoMemory>
     requires from { from < length nodes.old.items }
     requires to { to < length nodes.old.items }
-    ensures { OnOk result (nodes.new.items ≡ set nodes.old.items to (with_parts (node_at nodes.old.items to) (node_at nodes.old.items from).view.parts)) }
+    ensures nodes { OnOk result (nodes.new.items ≡ set nodes.old.items to (with_parts (node_at nodes.old.items to) (node_at nodes.old.items from).view.parts)) }
+    ensures named { IfErr result (λ e. e ≡ Allocation) }
 {
     let parts = nodes[from].view.parts.shared()?;
     put_parts(&mut nodes[to], parts);
@@ -46,7 +48,8 @@ fn share_at<'a, Ix: Index>(
     requires summaries { AreSummaries types.now.dwarf.now types.now.found.now types.now.summaries.now }
     requires inside { number < length types.now.found.now }
     requires nodes { AreShared types.now.dwarf.now types.now.found.now number nodes.old.items }
-    ensures { OnOk result (AreShared types.now.dwarf.now types.now.found.now (number + 1) nodes.new.items) }
+    ensures nodes { OnOk result (AreShared types.now.dwarf.now types.now.found.now (number + 1) nodes.new.items) }
+    ensures named { IfErr result (λ e. e ≡ Allocation) }
 {
     laws_of_types();
     let e = types.found.at(number);
@@ -73,7 +76,8 @@ pub(crate) fn share_parts<'a, Ix: Index>(
     requires closed { IsClosed types.now.dwarf.now.tree types.now.found.now }
     requires summaries { AreSummaries types.now.dwarf.now types.now.found.now types.now.summaries.now }
     requires nodes { nodes.items ≡ spec.first_nodes types.now.dwarf.now types.now.found.now }
-    ensures { IfOk result (λ shared. shared.items ≡ made_nodes types.now.dwarf.now types.now.found.now) }
+    ensures nodes { IfOk result (λ shared. shared.items ≡ made_nodes types.now.dwarf.now types.now.found.now) }
+    ensures named { IfErr result (λ e. e ≡ Allocation) }
 {
     'shared: for number in 0..types.found.len() {
         share_at(types, &mut nodes, number)?;

@@ -1,7 +1,9 @@
 // The types to which found entries lead, stored once.
 ghost use Rattle.std.specs.Prelude.{◌≡◌, ◌<◌, ◌≤◌, ◌+◌, ◌++◌, ◌^◌, true, length, slice_get, slice_index_or, All, Some, IfErr, IfOk, OnOk, IfSome};
+ghost use Rattle.abi_base.specs.Budgets.{allowed};
 ghost use Rattle.abi_base.specs.Outcome.{OnLimit};
 ghost use Rattle.abi_base.specs.declared.fault.NoMemory.TheVariants.{Allocation};
+ghost use Rattle.abi_base.specs.declared.limit.Limit.TheVariants.{Members};
 ghost use Rattle.type_reach.specs.References.{own_types};
 ghost use Rattle.type_reach.specs.References as spec;
 ghost use Rattle.type_reach.specs.ByValue.{IsClosed};
@@ -13,7 +15,7 @@ use crate::reached_entries::ReachedEntries;
 use crate::references::{has_type, is_variadic, parts_of, type_of};
 use crate::role::{Role, role_of};
 use crate::rows::Rows;
-use abi_base::{Limit, NoMemory, taken};
+use abi_base::{Budget, Limit, NoMemory};
 use dwarf_entries::Dwarf;
 use dwarf_tree::EntryNumber;
 use std::alloc::Global;
@@ -121,26 +123,27 @@ fn fill_types(
     Ok(())
 }
 
-/// The parts and types of all found entries. Fails if they have more than `most_parts` parts in all: functions can share the
-/// parameters of one origin, so a small file can have very many. The entries below an origin are looked up once for all functions
+/// The parts and types of all found entries. Fails if they have more parts in all than the limit on members allows for a file with this
+/// many bytes: functions can share the parameters of one origin, so a small file can have very many. The entries below an origin are looked up once for all functions
 /// that share it.
 pub fn type_references_of(
     alloc: Global,
     dwarf: &Dwarf,
     found: &ReachedEntries,
-    most_parts: usize,
+    bytes: usize,
 ) -> Result<TypeReferences, NoMemory>
-    requires { IsClosed dwarf.now.tree found.now }
+    requires closed { IsClosed dwarf.now.tree found.now }
+    requires small { bytes < 2 ^ 38 }
     ensures leads { IfOk result (λ leads. AreTypeReferences dwarf.now.tree found.now leads) }
-    ensures within { OnOk result (references_count dwarf.now.tree found.now ≤ most_parts) }
-    ensures past { IfErr result (λ e. OnLimit e (PassesReferences dwarf.now.tree found.now most_parts)) }
+    ensures within { OnOk result (references_count dwarf.now.tree found.now ≤ allowed Members bytes) }
+    ensures past { IfErr result (λ e. OnLimit e (PassesReferences dwarf.now.tree found.now (allowed Members bytes))) }
 {
     let mut parts = Rows::with_capacity(alloc, found.len())?;
     let mut types = Rows::with_capacity(alloc, found.len())?;
     let mut variadic = Vec::with_capacity(alloc, found.len())?;
     let mut own_types = Vec::new(alloc);
     let mut origins = Origins::new(alloc);
-    let mut left = most_parts;
+    let mut budget = Budget::of(Limit::Members, bytes);
     'found: for number in 0..found.len() {
         let e = found.at(number);
         let role = role_of(dwarf, e);
@@ -148,7 +151,7 @@ pub fn type_references_of(
         let same = origins.first_with(&origin);
         let visit = Visit { e, role, same };
         let row = parts_row(alloc, dwarf, &parts, &visit)?;
-        left = taken(Limit::Members, left, row.len())?;
+        budget.take(row.len())?;
         fill_types(dwarf, &mut own_types, e, role, row.as_slice())?;
         let further = variadic_row(alloc, dwarf, variadic.as_slice(), &visit)?;
         parts.push(row.as_slice())?;

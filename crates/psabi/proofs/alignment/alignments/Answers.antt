@@ -7,7 +7,7 @@ use Rattle.psabi.proofs.alignment.alignments.Goals as goal
 
 pub loop-i-init : goal.loop-i-init
 loop-i-init g c = record {
-  right = rw c.as_mut_slice-found.ensures.value (IsRight-none c.args.graph.now c.in_ok-room.room.items c.in_ok-room.ensures);
+  right = rw c.as_mut_slice-found.ensures.value (IsRight-none c.args.graph.now c.in_ok-room.room.items c.in_ok-room.ensures.found);
   aligns = c.new-aligns.ensures;
 }
 

@@ -73,4 +73,4 @@ returns-clause-shape g c =
     let i = g.Ix.Index.number_of c.args.ix in
     let function : is_function (view_at c.args.graph.now i).kind ≡ true = rw (← c.view-view.ensures, ← c.view.view_is) (cc) in
     let whole = call-whole c.args.graph.now i c.loop-k.k c.view-view.result.now c.outcome-outcome.result c.loop-k.params c.view-view.ensures function (omega arith) c.outcome-outcome.ensures.place c.loop-k.invariant.params in
-    subst (λ (shape : CallShape). IfOk c.of.result (λ call. call ≡ shape)) whole c.of.ensures
+    subst (λ (shape : CallShape). IfOk c.of.result (λ call. call ≡ shape)) whole c.of.ensures.call

@@ -1,19 +1,31 @@
-use Rattle.std.proofs.Common.{◌≡◌, get_or, ap, arith}
-use Rattle.std.proofs.lemmas.List.Sums.{sum_by_more}
-use Rattle.std.proofs.lemmas.Option.{slice_get_within, get_or_from_slice_get}
-use Rattle.type_graph.specs.Counts.{parts_held, member_letters_held}
+use Rattle.std.proofs.Common.{refl, inl, inr}
+use Rattle.std.proofs.lemmas.Result.{err_from_is_err_and}
+use Rattle.abi_base.proofs.lemmas.Outcomes.{on_limit_weaker}
+use Rattle.abi_base.specs.declared.limit.Limit.TheVariants.{Letters, Members}
+use Rattle.type_graph.specs.Counts.{members_held, member_letters_held}
+use Rattle.type_graph.proofs.lemmas.Spending.{spent-next, spent-passes}
 use Rattle.type_graph.proofs.counts.ask_parts.Goals as goal
+
+pub returns-in_err-take_parts-clause-past : goal.returns-in_err-take_parts-clause-past
+returns-in_err-take_parts-clause-past c =
+    let d = c.args.types.now.dwarf.now in
+    let found = c.args.types.now.found.now in
+    let was = c.found.invariant in
+    let p = err_from_is_err_and c.from_residual.result c.from_residual.ensures.1 in
+    rw (p.1, p.2) (on_limit_weaker c.in_err-take_parts.field-0.0 _ _
+    (λ l h. elim h [
+      | inl one ↦ inl (spent-passes Members c.args.bytes (members_held d) found c.found.number c.at-e.result _ c.found.budget l was.parts c.at-e.ensures one refl)
+      | inr other ↦ inr (spent-passes Letters c.args.bytes (member_letters_held d) found c.found.number c.at-e.result _ c.found.letters l was.letters c.at-e.ensures other refl)
+    ])
+    c.in_err-take_parts.ensures.past)
 
 pub found-preserved : goal.found-preserved
 found-preserved c =
     let d = c.args.types.now.dwarf.now in
     let found = c.args.types.now.found.now in
-    let inside = slice_get_within found c.found.number c.at-e.result c.at-e.ensures in
-    let is : get_or found c.found.number 0 ≡ c.at-e.result = get_or_from_slice_get found c.found.number c.at-e.result 0 c.at-e.ensures in
-    let more_parts = sum_by_more (parts_held d) found c.found.number 0 inside in
-    let same_parts = ap (parts_held d) is in
-    let more_letters = sum_by_more (member_letters_held d) found c.found.number 0 inside in
-    let same_letters = ap (member_letters_held d) is in
-    let after = c.in_ok-left.ensures in
     let was = c.found.invariant in
-    record { parts = omega (arith, more_parts, same_parts, after.parts, was.parts); letters = omega (arith, more_letters, same_letters, after.letters, was.letters) }
+    let after = c.in_ok-take_parts.ensures in
+    record {
+      parts = spent-next Members c.args.bytes (members_held d) found c.found.number c.at-e.result _ c.found.budget c.take_parts.new.budget was.parts c.at-e.ensures after.parts refl;
+      letters = spent-next Letters c.args.bytes (member_letters_held d) found c.found.number c.at-e.result _ c.found.letters c.take_parts.new.letters was.letters c.at-e.ensures after.letters refl;
+    }

@@ -73,7 +73,7 @@ members-preserved t c =
           let inner = w.in-Some-replacing.inner in
           let gives = gives-nested d laws m inner c.args.base.bit shallow no_name (sym (c.replacing.ensures ∙ ap replacing of_type) ∙ w.in-Some-replacing.is) in
           IsPut-more d before c.args.base.bit items c.members.k m put (plain_members c.match-replacing.out.items) c.members.invariant c.members-test.true refl
-          (ap (λ v. plain_members v.items) w.out-is ∙ w.in_ok-push_flat-in-Some-replacing.ensures
+          (ap (λ v. plain_members v.items) w.out-is ∙ w.in_ok-push_flat-in-Some-replacing.ensures.members
           ∙ ap (λ z. put ++ map (moved z) (flat_of d (Some inner))) bit
           ∙ ap (λ xs. put ++ xs) (sym gives))
       | in-None w ↦
@@ -81,7 +81,7 @@ members-preserved t c =
           (ap (λ v. plain_members v.items) w.out-is ∙ sym (append-nil put) ∙ ap (λ xs. put ++ xs) (sym (gives-nothing d laws m c.args.base.bit shallow no_name (sym (c.replacing.ensures ∙ ap replacing of_type) ∙ w.in-None.is))))
     ]
 
-pub returns : goal.returns
-returns t c =
+pub returns-clause-members : goal.returns-clause-members
+returns-clause-members t c =
     let d = c.args.types.now.dwarf.now in
     IsPut-end d (c.laws_of_types.ensures d) (plain_members c.args.out.now.items) c.args.base.bit c.args.c c.members_among-members.result.now c.members.k (plain_members c.members.out.items) c.members.invariant c.members-test.false c.members_among-members.ensures.members (c.requires.summaries.shallow c.args.c c.requires.there) c.requires.last

@@ -9,22 +9,22 @@ use Rattle.type_graph.proofs.judging.ask_shapes.Goals as goal
 pub shape_fault_of-requires-clause-inside : goal.shape_fault_of-requires-clause-inside
 shape_fault_of-requires-clause-inside c = c.requires.closed.inside c.at-e.result (contains_at c.args.found.now c.found.number c.at-e.result c.at-e.ensures)
 
-pub returns-in-Some : goal.returns-in-Some
-returns-in-Some c =
+pub returns-in-Some-clause-judged : goal.returns-in-Some-clause-judged
+returns-in-Some-clause-judged c =
     let g = shape_fault c.args.dwarf.now in
     let found = c.args.found.now in
     let e = c.at-e.result in
-    first-here g found c.found.number e c.in-Some.fault (first (map g found)) (slice_get_within found c.found.number e c.at-e.ensures) (sym (get_or_from_slice_get found c.found.number e 0 c.at-e.ensures)) (sym c.in_ok-fault.ensures ∙ c.in-Some.is) c.found.invariant
+    first-here g found c.found.number e c.in-Some.fault (first (map g found)) (slice_get_within found c.found.number e c.at-e.ensures) (sym (get_or_from_slice_get found c.found.number e 0 c.at-e.ensures)) (sym c.in_ok-fault.ensures.fault ∙ c.in-Some.is) c.found.invariant
 
 pub found-preserved : goal.found-preserved
 found-preserved c =
     let g = shape_fault c.args.dwarf.now in
     let found = c.args.found.now in
     let e = c.at-e.result in
-    first-on g found c.found.number e (first (map g found)) (slice_get_within found c.found.number e c.at-e.ensures) (sym (get_or_from_slice_get found c.found.number e 0 c.at-e.ensures)) (sym c.in_ok-fault.ensures ∙ c.in-None.is) c.found.invariant
+    first-on g found c.found.number e (first (map g found)) (slice_get_within found c.found.number e c.at-e.ensures) (sym (get_or_from_slice_get found c.found.number e 0 c.at-e.ensures)) (sym c.in_ok-fault.ensures.fault ∙ c.in-None.is) c.found.invariant
 
-pub returns : goal.returns
-returns c =
+pub returns-clause-judged : goal.returns-clause-judged
+returns-clause-judged c =
     let g = shape_fault c.args.dwarf.now in
     let found = c.args.found.now in
     first-end g found c.found.number (first (map g found)) (omega (arith, c.found-test.false, c.len-number-end.ensures)) c.found.invariant

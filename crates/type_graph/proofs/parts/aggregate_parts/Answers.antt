@@ -18,7 +18,7 @@ push_flat-requires-clause-low g c =
 pub member_parts-requires-clause-near : goal.member_parts-requires-clause-near
 member_parts-requires-clause-near g c =
     let flats = flat_of c.args.types.now.dwarf.now (Some c.args.c) in
-    let is = put-whole c.push_flat.new.out.items c.new-members.result.items flats c.outermost.result.bit c.new-members.ensures.items c.outermost.ensures.bit c.in_ok-push_flat.ensures in
+    let is = put-whole c.push_flat.new.out.items c.new-members.result.items flats c.outermost.result.bit c.new-members.ensures.items c.outermost.ensures.bit c.in_ok-push_flat.ensures.members in
     subst (All (λ (m : Placed). is_out_of_range m.bit ≡ false)) (sym c.as_slice.ensures.value) (near-each c.push_flat.new.out.items flats is c.requires.near)
 
 pub member_parts-requires-clause-there : goal.member_parts-requires-clause-there
@@ -26,12 +26,12 @@ member_parts-requires-clause-there g c =
     let d = c.args.types.now.dwarf.now in
     let found = c.args.types.now.found.now in
     let flats = flat_of d (Some c.args.c) in
-    let is = put-whole c.push_flat.new.out.items c.new-members.result.items flats c.outermost.result.bit c.new-members.ensures.items c.outermost.ensures.bit c.in_ok-push_flat.ensures in
+    let is = put-whole c.push_flat.new.out.items c.new-members.result.items flats c.outermost.result.bit c.new-members.ensures.items c.outermost.ensures.bit c.in_ok-push_flat.ensures.members in
     subst (All (λ (m : Placed). IsFound found m.to)) (sym c.as_slice.ensures.value)
     (there-each found c.push_flat.new.out.items flats is (λ x h. ((c.laws_of_types.ensures d).lower found c.requires.closed (Some c.args.c) (c.requires.summaries.shallow c.args.c c.requires.there) c.requires.there x h).there))
 
-pub returns : goal.returns
-returns g c =
+pub returns-clause-parts : goal.returns-clause-parts
+returns-clause-parts g c =
     let d = c.args.types.now.dwarf.now in
-    let is = put-whole c.push_flat.new.out.items c.new-members.result.items (flat_of d (Some c.args.c)) c.outermost.result.bit c.new-members.ensures.items c.outermost.ensures.bit c.in_ok-push_flat.ensures in
-    c.in_ok-parts.ensures ∙ ap (λ xs. map (member_part (number_in c.args.types.now.found.now)) (plain_members xs)) c.as_slice.ensures.value ∙ ap (map (member_part (number_in c.args.types.now.found.now))) is
+    let is = put-whole c.push_flat.new.out.items c.new-members.result.items (flat_of d (Some c.args.c)) c.outermost.result.bit c.new-members.ensures.items c.outermost.ensures.bit c.in_ok-push_flat.ensures.members in
+    c.in_ok-parts.ensures.parts ∙ ap (λ xs. map (member_part (number_in c.args.types.now.found.now)) (plain_members xs)) c.as_slice.ensures.value ∙ ap (map (member_part (number_in c.args.types.now.found.now))) is

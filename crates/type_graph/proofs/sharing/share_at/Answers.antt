@@ -22,11 +22,11 @@ share_from-requires-clause-from g c =
     let inside = slice_get_within c.args.types.now.found.now c.number_of-core.result c.in-Some.c c.number_of-core.ensures in
     omega (arith, inside, c.requires.nodes.many)
 
-pub returns-in_ok-share_from-in-Some : goal.returns-in_ok-share_from-in-Some
-returns-in_ok-share_from-in-Some g c =
+pub returns-in_ok-share_from-in-Some-clause-nodes : goal.returns-in_ok-share_from-in-Some-clause-nodes
+returns-in_ok-share_from-in-Some-clause-nodes g c =
     let d = c.args.types.now.dwarf.now in
     let found = c.args.types.now.found.now in
     let laws = c.laws_of_types.ensures d in
     let there = contains_at found c.args.number c.at-e.result c.at-e.ensures in
     let is : core_of d (Some c.at-e.result) ≡ Some c.in-Some.c = ap (λ (x : Summary). x.core) (sym c.summary_by_number-own.ensures) ∙ c.in-Some.is in
-    one-shared d found c.args.number c.args.nodes.now.items c.requires.nodes c.at-e.result c.at-e.ensures c.number_of-core.result c.in-Some.c c.share_from.new.nodes.items laws (c.requires.summaries.shallow c.at-e.result there) is c.number_of-core.ensures c.in_ok-share_from-in-Some.ensures
+    one-shared d found c.args.number c.args.nodes.now.items c.requires.nodes c.at-e.result c.at-e.ensures c.number_of-core.result c.in-Some.c c.share_from.new.nodes.items laws (c.requires.summaries.shallow c.at-e.result there) is c.number_of-core.ensures c.in_ok-share_from-in-Some.ensures.nodes

@@ -1,10 +1,13 @@
 -- One entry more.
 use Rattle.std.proofs.Common.{◌≡◌, ◌≤◌, ◌<◌, ◌+◌, ◌∙◌, ◌++◌, ◌∷◌, [], ℕ, List, Some, length, map, take, slice_get, refl, sym, ap, subst, arith}
 use Rattle.std.specs.Prelude.{All, IfSome}
-use Rattle.std.proofs.lemmas.List.{take_all, length-map, length-take}
-use Rattle.std.proofs.lemmas.List.Sums.{sum_by_more, sum_by_more_le}
+use Rattle.std.proofs.lemmas.List.{take_all, take_more, length-map, length-take}
+use Rattle.std.proofs.lemmas.List.Sums.{sum_by_more_le}
 use Rattle.std.proofs.lemmas.Option.{slice_get_within, get_or_from_slice_get}
 use Rattle.std.proofs.lemmas.Result.{err_from_is_err_and}
+use Rattle.abi_base.specs.declared.limit.Limit.TheVariants.{Members}
+use Rattle.abi_base.specs.Budgets.{BudgetState, allowed, with_taken}
+use Rattle.abi_base.proofs.lemmas.Budgets.{SpentOn, on_more}
 use Rattle.abi_base.proofs.lemmas.Lists.{contains_at}
 use Rattle.dwarf_tree.specs.Trees.{PlainTree}
 use Rattle.type_reach.specs.References.{parts_of, types_of}
@@ -16,41 +19,43 @@ use Rattle.type_reach.proofs.LeadLemmas.{inside-more, inside-end}
 use Rattle.type_reach.proofs.OriginLemmas.{same-parts, same-inside, AreOrigins-more, IsRow}
 use Rattle.type_reach.proofs.type_references.type_references_of.Goals as goal
 
-one-more : (t : PlainTree) (found : List ℕ) (k e left rest most n : ℕ) → slice_get found k ≡ Some e → n ≡ length (parts_of t e) → rest + n ≡ left → left + references_count t (take k found) ≡ most → rest + references_count t (take (k + 1) found) ≡ most
-one-more t found k e left rest most n at is took was =
+one-more : (t : PlainTree) (found : List ℕ) (k e bytes n : ℕ) (budget next : BudgetState) → slice_get found k ≡ Some e → n ≡ length (parts_of t e) → SpentOn Members bytes (λ x. length (parts_of t x)) (take k found) budget
+    → next ≡ with_taken budget n → budget.taken + n ≤ budget.most → SpentOn Members bytes (λ x. length (parts_of t x)) (take (k + 1) found) next
+one-more t found k e bytes n budget next at is was took fits =
     let cost : ℕ → ℕ = λ x. length (parts_of t x) in
-    let more = sum_by_more cost found k 0 (slice_get_within found k e at) in
-    let same = ap cost (get_or_from_slice_get found k e 0 at) in
-    omega (arith, more, same, is, took, was)
+    let lt = slice_get_within found k e at in
+    let more : take (k + 1) found ≡ take k found ++ e ∷ [] = take_more found k e lt ∙ ap (λ x. take k found ++ x ∷ []) (get_or_from_slice_get found k e e at) in
+    subst (λ xs. SpentOn Members bytes cost xs next) (sym more) (on_more Members bytes cost (take k found) e n budget next was (sym is) fits took)
 
-one-past : (t : PlainTree) (found : List ℕ) (k e left most n : ℕ) → slice_get found k ≡ Some e → n ≡ length (parts_of t e) → left < n → left + references_count t (take k found) ≡ most → most < references_count t found
-one-past t found k e left most n at is above was =
+one-past : (t : PlainTree) (found : List ℕ) (k e bytes n : ℕ) (budget : BudgetState) → slice_get found k ≡ Some e → n ≡ length (parts_of t e) → SpentOn Members bytes (λ x. length (parts_of t x)) (take k found) budget → budget.most < budget.taken + n → allowed Members bytes < references_count t found
+one-past t found k e bytes n budget at is was above =
     let cost : ℕ → ℕ = λ x. length (parts_of t x) in
     let more = sum_by_more_le cost found k 0 (slice_get_within found k e at) in
     let same = ap cost (get_or_from_slice_get found k e 0 at) in
-    omega (arith, more, same, is, above, was)
+    omega (arith, more, same, is, above, was.most, was.taken)
 
-all-within : (t : PlainTree) (found : List ℕ) (k left most : ℕ) → length found ≤ k → left + references_count t (take k found) ≡ most → references_count t found ≤ most
-all-within t found k left most past was =
+all-within : (t : PlainTree) (found : List ℕ) (k bytes : ℕ) (budget : BudgetState) → length found ≤ k → SpentOn Members bytes (λ x. length (parts_of t x)) (take k found) budget → references_count t found ≤ allowed Members bytes
+all-within t found k bytes budget past was =
     let same = ap (references_count t) (take_all k found past) in
-    omega (arith, same, was)
+    omega (arith, same, was.within, was.most, was.taken)
 
-pub returns-in_err-left-clause-past : goal.returns-in_err-left-clause-past
-returns-in_err-left-clause-past c =
-    let p = err_from_is_err_and c.from_residual-in_err-left.result c.from_residual-in_err-left.ensures.1 in
-    rw (p.1, p.2, c.in_err-left.ensures.named) (refl, one-past c.args.dwarf.now.tree c.args.found.now c.found.number c.at-e.result c.found.left c.args.most_parts _ c.at-e.ensures (omega (arith, c.len-in-found.ensures, c.in_ok-row.row.ok.0, ap length c.in_ok-row.ensures.parts)) c.in_err-left.ensures.err c.found.invariant.count)
+pub returns-in_err-take-clause-past : goal.returns-in_err-take-clause-past
+returns-in_err-take-clause-past c =
+    let p = err_from_is_err_and c.from_residual-in_err-take.result c.from_residual-in_err-take.ensures.1 in
+    rw (p.1, p.2, c.in_err-take.ensures.named, c.found.invariant.count.limit_is)
+    (refl, one-past c.args.dwarf.now.tree c.args.found.now c.found.number c.at-e.result c.args.bytes _ c.found.budget c.at-e.ensures (omega (arith, c.len-in-found.ensures, c.in_ok-row.row.ok.0, ap length c.in_ok-row.ensures.parts)) c.found.invariant.count c.in_err-take.ensures.past)
 
 pub returns-clause-within : goal.returns-clause-within
-returns-clause-within c = all-within c.args.dwarf.now.tree c.args.found.now c.found.number c.found.left c.args.most_parts (omega (arith, c.found-test.false, c.len-number-end.ensures)) c.found.invariant.count
+returns-clause-within c = all-within c.args.dwarf.now.tree c.args.found.now c.found.number c.args.bytes c.found.budget (omega (arith, c.found-test.false, c.len-number-end.ensures)) c.found.invariant.count
 
 pub role_of-role-requires : goal.role_of-role-requires
-role_of-role-requires c = c.requires.inside c.at-e.result (contains_at c.args.found.now c.found.number c.at-e.result c.at-e.ensures)
+role_of-role-requires c = c.requires.closed.inside c.at-e.result (contains_at c.args.found.now c.found.number c.at-e.result c.at-e.ensures)
 
 pub other_body-origin-requires-clause-inside : goal.other_body-origin-requires-clause-inside
-other_body-origin-requires-clause-inside c = c.requires.inside c.at-e.result (contains_at c.args.found.now c.found.number c.at-e.result c.at-e.ensures)
+other_body-origin-requires-clause-inside c = c.requires.closed.inside c.at-e.result (contains_at c.args.found.now c.found.number c.at-e.result c.at-e.ensures)
 
 pub parts_row-requires-clause-inside : goal.parts_row-requires-clause-inside
-parts_row-requires-clause-inside c = c.requires.inside c.at-e.result (contains_at c.args.found.now c.found.number c.at-e.result c.at-e.ensures)
+parts_row-requires-clause-inside c = c.requires.closed.inside c.at-e.result (contains_at c.args.found.now c.found.number c.at-e.result c.at-e.ensures)
 
 pub parts_row-requires-clause-same : goal.parts_row-requires-clause-same
 parts_row-requires-clause-same c =
@@ -67,10 +72,10 @@ parts_row-requires-clause-same_inside c =
     (same-inside t c.found.origins c.found.parts c.found.variadic.items c.other_body-origin.result e c.other_body-origin.ensures.role c.other_body-origin.ensures.body c.found.invariant.origins)
 
 pub fill_types-requires-clause-inside : goal.fill_types-requires-clause-inside
-fill_types-requires-clause-inside c = c.requires.inside c.at-e.result (contains_at c.args.found.now c.found.number c.at-e.result c.at-e.ensures)
+fill_types-requires-clause-inside c = c.requires.closed.inside c.at-e.result (contains_at c.args.found.now c.found.number c.at-e.result c.at-e.ensures)
 
 pub variadic_row-requires-clause-inside : goal.variadic_row-requires-clause-inside
-variadic_row-requires-clause-inside c = c.requires.inside c.at-e.result (contains_at c.args.found.now c.found.number c.at-e.result c.at-e.ensures)
+variadic_row-requires-clause-inside c = c.requires.closed.inside c.at-e.result (contains_at c.args.found.now c.found.number c.at-e.result c.at-e.ensures)
 
 pub found-preserved : goal.found-preserved
 found-preserved c =
@@ -96,7 +101,7 @@ found-preserved c =
       types = map-step (types_of t) found c.push-in-found.new.self c.found.types k e c.as_slice-in-found-3.result.now was.types c.at-e.ensures (c.as_slice-in-found-3.ensures.value ∙ c.in_ok-fill_types.ensures.types) c.in_ok-push-2.ensures.row;
       variadic = map-step (is_variadic t) found c.push-in-found-2.new.self.items c.found.variadic.items k e further was.variadic c.at-e.ensures is.further c.in_ok-push-3.ensures.items;
       inside = inside-more t found k e was.inside c.at-e.ensures (subst (All (λ (x : ℕ). x < length t.entries)) c.in_ok-row.ensures.parts c.in_ok-row.ensures.inside);
-      count = one-more t found k e c.found.left c.in_ok-left.left c.args.most_parts _ c.at-e.ensures (omega (arith, c.len-in-found.ensures, c.in_ok-row.row.ok.0, ap length c.in_ok-row.ensures.parts)) c.in_ok-left.ensures.ok was.count;
+      count = one-more t found k e c.args.bytes _ c.found.budget c.take.new.self c.at-e.ensures (omega (arith, c.len-in-found.ensures, c.in_ok-row.row.ok.0, ap length c.in_ok-row.ensures.parts)) was.count c.in_ok-take.ensures.taken c.in_ok-take.ensures.within;
       origins =
           subst (λ rows. AreOrigins t rows c.push-in-found-2.new.self.items c.keep.new.self) (sym c.in_ok-push.ensures.row)
           (subst (λ flags. AreOrigins t (c.found.parts ++ row ∷ []) flags c.keep.new.self) (sym c.in_ok-push-3.ensures.items)

@@ -3,19 +3,19 @@ use Rattle.abi_base.proofs.lemmas.Lists.{contains_at}
 use Rattle.type_reach.specs.declared.summaries.Summary.{Summary}
 use Rattle.type_reach.specs.Flat.{core_of}
 use Rattle.type_reach.specs.PeeledCores.{IsFound}
-use Rattle.type_graph.proofs.counts.after_parts.Goals as goal
+use Rattle.type_graph.proofs.counts.take_parts.Goals as goal
 
 pub role_of-requires : goal.role_of-requires
 role_of-requires c = c.requires.closed.inside c.args.e (contains_at c.args.types.now.found.now c.args.number c.args.e c.requires.at)
 
-pub after_members-requires-clause-there : goal.after_members-requires-clause-there
-after_members-requires-clause-there c = contains_at c.args.types.now.found.now c.args.number c.args.e c.requires.at
+pub take_members-requires-clause-there : goal.take_members-requires-clause-there
+take_members-requires-clause-there c = contains_at c.args.types.now.found.now c.args.number c.args.e c.requires.at
 
-pub after_params-requires-clause-there : goal.after_params-requires-clause-there
-after_params-requires-clause-there c = contains_at c.args.types.now.found.now c.args.number c.args.e c.requires.at
+pub take_params-requires-clause-there : goal.take_params-requires-clause-there
+take_params-requires-clause-there c = contains_at c.args.types.now.found.now c.args.number c.args.e c.requires.at
 
-pub after_params-requires-in-Wrapper-clause-there : goal.after_params-requires-in-Wrapper-clause-there
-after_params-requires-in-Wrapper-clause-there c =
+pub take_params-requires-in-Wrapper-clause-there : goal.take_params-requires-in-Wrapper-clause-there
+take_params-requires-in-Wrapper-clause-there c =
     let d = c.args.types.now.dwarf.now in
     let found = c.args.types.now.found.now in
     let e = c.args.e in

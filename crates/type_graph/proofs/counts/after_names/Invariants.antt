@@ -1,7 +1,0 @@
-use Rattle.std.proofs.Common.{◌≡◌, ◌+◌, take}
-use Rattle.std.specs.Prelude.{sum_by}
-use Rattle.type_graph.specs.Counts.{letters_of}
-use Rattle.type_graph.proofs.counts.after_names.Given as goal
-
-abbrev pub invariant-entries : goal.invariant-entries
-invariant-entries l = l.rest + sum_by (letters_of l.dwarf) (take l.k l.entries) ≡ l.left
