@@ -1,7 +1,8 @@
 // The exports of a library, ordered by name.
-ghost use Rattle.std.specs.Prelude.{◌≡◌, ◌≤◌, ◌-◌, false, true, length, take, drop, IfOk};
+ghost use Rattle.std.specs.Prelude.{◌≡◌, ◌≤◌, ◌-◌, false, true, length, take, drop, IfOk, IfErr};
 ghost use Rattle.std.specs.List.Sorted.{IsPartitionPoint};
 ghost use Rattle.std.specs.Ordering.{is_lt, is_le};
+ghost use Rattle.abi_base.specs.declared.fault.NoMemory.TheVariants.{Allocation};
 ghost use Rattle.abi_types.specs.Plain.{plain_exports};
 ghost use Rattle.abi_types.specs.Names.{named_cmp, place_cmp, IsNameOrder, AreNamed};
 ghost use Rattle.abi_types.specs.Names as spec;
@@ -53,7 +54,8 @@ fn place_order(exports: &[Export], a: usize, b: usize) -> Ordering
 
 /// The positions of all exports, ordered by name.
 pub fn name_order_of(alloc: Global, exports: &[Export]) -> Result<Vec<usize>, NoMemory>
-    ensures { IfOk result (λ places. IsNameOrder places.items (plain_exports exports.now)) }
+    ensures order { IfOk result (λ places. IsNameOrder places.items (plain_exports exports.now)) }
+    ensures named { IfErr result (λ e. e ≡ Allocation) }
 {
     let mut places = numbers_below(alloc, exports.len())?;
     places.sort_unstable_by(|a, b| place_order(exports, *a, *b));

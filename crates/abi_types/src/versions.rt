@@ -1,8 +1,9 @@
 // The exports of a library, ordered by name and version.
-ghost use Rattle.std.specs.Prelude.{◌≡◌, ◌≤◌, false, true, length, IfOk};
+ghost use Rattle.std.specs.Prelude.{◌≡◌, ◌≤◌, false, true, length, IfOk, IfErr};
 ghost use Rattle.std.specs.List.Sorted.{IsPartitionPoint};
 ghost use Rattle.std.specs.Option.{option_copied};
 ghost use Rattle.std.specs.Ordering.{is_lt, is_le};
+ghost use Rattle.abi_base.specs.declared.fault.NoMemory.TheVariants.{Allocation};
 ghost use Rattle.abi_types.specs.Plain.{plain_exports};
 ghost use Rattle.abi_types.specs.Versions.{version_cmp, versioned_cmp, versioned_place_cmp, IsVersionOrder, AreVersioned};
 ghost use Rattle.abi_types.specs.Versions as spec;
@@ -64,7 +65,8 @@ fn place_order(exports: &[Export], a: usize, b: usize) -> Ordering
 
 /// The positions of all exports, ordered by name and version.
 pub fn version_order_of(alloc: Global, exports: &[Export]) -> Result<Vec<usize>, NoMemory>
-    ensures { IfOk result (λ places. IsVersionOrder places.items (plain_exports exports.now)) }
+    ensures order { IfOk result (λ places. IsVersionOrder places.items (plain_exports exports.now)) }
+    ensures named { IfErr result (λ e. e ≡ Allocation) }
 {
     let mut places = numbers_below(alloc, exports.len())?;
     places.sort_unstable_by(|a, b| place_order(exports, *a, *b));

@@ -8,6 +8,6 @@ pub returns : goal.returns
 returns g c =
     let P : List ℕ → Type 0 = λ order. IsPermutation order c.sort_unstable_by_key.new.self.items in
     record {
-      all = subst P c.in_ok-order.ensures c.sort_unstable_by_key.ensures.permutation;
+      all = subst P c.in_ok-order.ensures.numbers c.sort_unstable_by_key.ensures.permutation;
       rises = IsNonDecreasingBy-from_sort_by_key (entry_at c.args.nodes.now) c.sort_unstable_by_key.new.self.items c.sort_unstable_by_key.ensures.sorted (λ a r q k. search rules);
     }

@@ -10,10 +10,10 @@ use Rattle.abi_types.proofs.KeyLemmas.{key_weak}
 use Rattle.abi_types.proofs.VersionLemmas.{key_at, pair_cmp, pair_total}
 use Rattle.abi_types.proofs.versions.version_order_of.Goals as goal
 
-pub returns : goal.returns
-returns c =
+pub returns-clause-order : goal.returns-clause-order
+returns-clause-order c =
     let exports = plain_exports c.args.exports.now in
-    let all : c.in_ok-places.places.items ≡ range_with_len 0 (length exports) = rw (length-map c.args.exports.now plain_export) (c.in_ok-places.ensures) in
+    let all : c.in_ok-places.places.items ≡ range_with_len 0 (length exports) = rw (length-map c.args.exports.now plain_export) (c.in_ok-places.ensures.numbers) in
     let P : List ℕ → Type 0 = λ places. IsPermutation places c.sort_unstable_by.new.self.items in
     record {
       all = subst P all c.sort_unstable_by.ensures.permutation;
