@@ -1,37 +1,36 @@
 // How much the pair lines of a certificate compare.
-ghost use Rattle.std.specs.Prelude.{◌≡◌, IfErr};
+ghost use Rattle.std.specs.Prelude.{◌≡◌, ◌<◌, ◌≤◌, IfErr, OnOk, OnErr};
 ghost use Rattle.abi_base.specs.declared.fault.NoMemory.TheVariants.{Past};
 ghost use Rattle.abi_base.specs.declared.limit.Limit.TheVariants.{PairParts};
+ghost use Rattle.cert_check.specs.CertifiedPair.{case_of};
+ghost use Rattle.cert_check.specs.Compatible.{sides};
+ghost use Rattle.cert_check.specs.Fitting.{line_weight, lines_allowed, lines_weight};
 
 use crate::certified_pair::{CertifiedPair, find, is_marked, view_of};
 use abi_base::NoMemory;
 use abi_types::{Library, Marks, NewIx, OldIx, Way};
 use cert_text::{Cert, pairs_of};
-use pair_rules::PartBudget;
+use pair_rules::{part_budget, weight_between};
 
-// Spends the parts of the types of a pair line, if they are compared: both libraries have them, and the old one is unmarked.
-fn take_line(
-    budget: &mut PartBudget,
-    ground: &CertifiedPair,
-    line: (u64, u64, Way),
-) -> Result<(), NoMemory>
-    ensures { IfErr result (λ e. e ≡ Past PairParts) }
+// How much the types of a pair line count, if they are compared: both libraries have them, and the old one is unmarked.
+fn weight_of(ground: &CertifiedPair, line: (u64, u64, Way)) -> usize
+    ensures { result ≡ line_weight (case_of ground.now).sides line }
 {
     let Some(old) = find(ground.old, line.0) else {
-        return Ok(());
+        return 0;
     };
     let Some(new) = find(ground.new, line.1) else {
-        return Ok(());
+        return 0;
     };
     if is_marked(ground, old, line.2) {
-        return Ok(());
+        return 0;
     }
-    budget.take(view_of(ground.old, old), view_of(ground.new, new))
+    weight_between(view_of(ground.old, old), view_of(ground.new, new))
 }
 
-/// Fails if the types of a certificate's pair lines have too many parts to be compared, and names that limit. A certificate may
-/// pair each of many typedefs of one structure with each of many others, so its lines can take far more work than it has bytes. A line
-/// counts what a visit of its types does in an exploration, and nothing if the old type is marked; the limit is that of an
+/// Fails exactly if the types of a certificate's pair lines have too many parts to be compared, and names that limit. A certificate
+/// may pair each of many typedefs of one structure with each of many others, so its lines can take far more work than it has bytes. A
+/// line counts what a visit of its types does in an exploration, and nothing if the old type is marked; the limit is that of an
 /// exploration. So each certificate that an exploration gives is within it.
 pub fn pairs_fit(
     old: &Library<OldIx>,
@@ -39,6 +38,8 @@ pub fn pairs_fit(
     marks: &Marks,
     cert: &Cert,
 ) -> Result<(), NoMemory>
+    ensures within { OnOk result (lines_weight (sides old.now new.now marks.now) cert.now.pairs ≤ lines_allowed (sides old.now new.now marks.now)) }
+    ensures past { OnErr result (lines_allowed (sides old.now new.now marks.now) < lines_weight (sides old.now new.now marks.now) cert.now.pairs) }
     ensures named { IfErr result (λ e. e ≡ Past PairParts) }
 {
     let ground = CertifiedPair {
@@ -47,9 +48,10 @@ pub fn pairs_fit(
         marks,
         cert,
     };
-    let mut budget = PartBudget::between(old.graph(), new.graph());
-    for line in pairs_of(cert) {
-        take_line(&mut budget, &ground, *line)?;
+    let mut budget = part_budget(old.graph(), new.graph());
+    let lines = pairs_of(cert);
+    for line in lines {
+        budget.take(weight_of(&ground, *line))?;
     }
     Ok(())
 }

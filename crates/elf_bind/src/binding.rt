@@ -1,6 +1,7 @@
 // The binding of exports, by the positions of the exports offered of one name and of one version.
-ghost use Rattle.std.specs.Prelude.{◌≡◌, ◌||◌, find, is_some, slice_get, count_by, IfOk, OnOk};
+ghost use Rattle.std.specs.Prelude.{◌≡◌, ◌||◌, find, is_some, slice_get, count_by, IfOk, OnOk, IfErr};
 ghost use Rattle.std.specs.Option.{option_copied};
+ghost use Rattle.abi_base.specs.declared.fault.NoMemory.TheVariants.{Allocation};
 ghost use Rattle.abi_types.specs.Names.{IsNameOrder};
 ghost use Rattle.abi_types.specs.Plain.{plain_export, plain_exports};
 ghost use Rattle.abi_types.specs.Versions.{IsVersionOrder};
@@ -142,6 +143,7 @@ fn place_of_some_version_once(
     requires known { AreAnswers answers.old (plain_exports offered.now) }
     ensures place { IfOk result (λ place. place ≡ some_version_of name.now (plain_exports offered.now)) }
     ensures known { OnOk result (AreAnswers answers.new (plain_exports offered.now)) }
+    ensures named { IfErr result (λ e. e ≡ Allocation) }
 {
     let places = named_in(offered, name_order, name);
     let Some(first) = first_of(places) else {
@@ -168,6 +170,7 @@ fn place_for(
     requires known { AreAnswers answers.old (plain_exports offered.now) }
     ensures place { IfOk result (λ place. place ≡ bind_to (plain_exports offered.now) (plain_export wanted.now)) }
     ensures known { OnOk result (AreAnswers answers.new (plain_exports offered.now)) }
+    ensures named { IfErr result (λ e. e ≡ Allocation) }
 {
     let versioned = versioned_in(offered, version_order, wanted.name, wanted.version);
     let exact = first_of(versioned);
@@ -185,7 +188,8 @@ pub fn bind_all(
     wanted: &[Export],
     offered: &[Export],
 ) -> Result<List<Option<usize>>, NoMemory>
-    ensures { IfOk result (λ places. places ≡ bind_each (plain_exports wanted.now) (plain_exports offered.now)) }
+    ensures places { IfOk result (λ places. places ≡ bind_each (plain_exports wanted.now) (plain_exports offered.now)) }
+    ensures named { IfErr result (λ e. e ≡ Allocation) }
 {
     let name_order = name_order_of(alloc, offered)?;
     let version_order = version_order_of(alloc, offered)?;

@@ -1,5 +1,6 @@
 // The path to a visit.
-ghost use Rattle.std.specs.Prelude.{◌<◌, length, IfOk};
+ghost use Rattle.std.specs.Prelude.{◌≡◌, ◌<◌, length, IfOk, IfErr};
+ghost use Rattle.abi_base.specs.declared.fault.NoMemory.TheVariants.{Allocation};
 ghost use Rattle.pair_explorer.specs.Visits.{Along, AreEarlier};
 ghost use Rattle.pair_explorer.specs.Routes.{path_of};
 
@@ -20,7 +21,8 @@ pub struct Route {
 pub fn route_to(alloc: Global, visits: &Visits, number: usize) -> Result<Route, NoMemory>
     requires number { number < length visits.now }
     requires earlier { AreEarlier visits.now }
-    ensures { IfOk result (λ route. Along visits.now number (path_of route.export route.parts)) }
+    ensures along { IfOk result (λ route. Along visits.now number (path_of route.export route.parts)) }
+    ensures named { IfErr result (λ e. e ≡ Allocation) }
 {
     let mut parts = Vec::new(alloc);
     let mut at = number;

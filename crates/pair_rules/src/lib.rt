@@ -18,4 +18,4 @@ pub use matching::{after, match_of, number_of, partner, partner_at};
 pub use rules::{Broken, bit_at, holds, params_of, value_at, width_at};
 pub use steps::Steps;
 pub use triple::Triple;
-pub use weights::{part_budget, take_parts};
+pub use weights::{part_budget, take_parts, weight_between};

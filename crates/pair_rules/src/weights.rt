@@ -57,6 +57,13 @@ pub fn part_budget(old: &Graph<OldIx>, new: &Graph<NewIx>) -> Budget
     Budget::of_many(Limit::PairParts, weight)
 }
 
+/// How much two types count that are compared.
+pub fn weight_between(old: &View<OldIx>, new: &View<NewIx>) -> usize
+    ensures { result ≡ pair_weight old.now new.now }
+{
+    weight_of(old).saturating_add(weight_of(new))
+}
+
 /// Takes the parts of two types that are compared. Fails exactly where they count more than is left, and names the limit.
 pub fn take_parts(budget: &mut Budget, old: &View<OldIx>, new: &View<NewIx>) -> Result<(), NoMemory>
     ensures taken { OnOk result (budget.new ≡ with_taken budget.old (pair_weight old.now new.now)) }
@@ -65,5 +72,5 @@ pub fn take_parts(budget: &mut Budget, old: &View<OldIx>, new: &View<NewIx>) -> 
     ensures named { IfErr result (λ e. e ≡ Past budget.old.limit) }
     ensures kept { OnErr result (budget.new ≡ budget.old) }
 {
-    budget.take(weight_of(old).saturating_add(weight_of(new)))
+    budget.take(weight_between(old, new))
 }

@@ -1,6 +1,7 @@
 // A row of a report.
-ghost use Rattle.std.specs.Prelude.{◌≡◌, [], codes, IfOk, string_bytes};
+ghost use Rattle.std.specs.Prelude.{◌≡◌, [], codes, IfOk, string_bytes, IfErr};
 ghost use Rattle.std.specs.Option.{option_copied};
+ghost use Rattle.abi_base.specs.declared.fault.NoMemory.TheVariants.{Allocation};
 ghost use Rattle.abi_types.specs.Plain.{plain_export};
 ghost use Rattle.abi_types.specs.Shown.{label};
 ghost use Rattle.report.specs.Details.{IsInside};
@@ -70,7 +71,8 @@ fn bytes_of(text: String) -> List<u8>
 
 // The label of an export.
 fn label_of(alloc: Global, export: &Export) -> Result<String, NoMemory>
-    ensures { IfOk result (λ text. string_bytes text ≡ label (plain_export export.now)) }
+    ensures label { IfOk result (λ text. string_bytes text ≡ label (plain_export export.now)) }
+    ensures named { IfErr result (λ e. e ≡ Allocation) }
 {
     let mut text = String::new(alloc);
     push_label(alloc, &mut text, export)?;
@@ -79,7 +81,7 @@ fn label_of(alloc: Global, export: &Export) -> Result<String, NoMemory>
 
 /// The row about sonames that differ, X1. It names no export, no path and no types.
 pub fn soname_row(alloc: Global, old: Option<&[u8]>, new: Option<&[u8]>) -> Result<Row, NoMemory>
-    ensures { IfOk result (λ (row : AnyRow). row ≡ record {
+    ensures row { IfOk result (λ (row : AnyRow). row ≡ record {
       rule = Rule.LibrarySoname;
       export = codes "-";
       path = [];
@@ -90,6 +92,7 @@ pub fn soname_row(alloc: Global, old: Option<&[u8]>, new: Option<&[u8]>) -> Resu
       old_entry = 0;
       new_entry = 0;
     }) }
+    ensures named { IfErr result (λ e. e ≡ Allocation) }
 {
     Ok(Row {
         rule: Rule::LibrarySoname,
@@ -107,7 +110,7 @@ pub fn soname_row(alloc: Global, old: Option<&[u8]>, new: Option<&[u8]>) -> Resu
 /// The row about an old export that breaks one of the rules X2 to X6, beside the new export to which it binds. If the old one is
 /// gone, the new one is not looked at. The row has no path and no types.
 pub fn export_row(alloc: Global, rule: Rule, old: &Export, new: &Export) -> Result<Row, NoMemory>
-    ensures { IfOk result (λ (row : AnyRow). row ≡ record {
+    ensures row { IfOk result (λ (row : AnyRow). row ≡ record {
       rule = rule;
       export = label (plain_export old.now);
       path = [];
@@ -118,6 +121,7 @@ pub fn export_row(alloc: Global, rule: Rule, old: &Export, new: &Export) -> Resu
       old_entry = 0;
       new_entry = 0;
     }) }
+    ensures named { IfErr result (λ e. e ≡ Allocation) }
 {
     Ok(Row {
         rule,
@@ -150,7 +154,7 @@ pub fn type_row(
     new: (u64, &View<NewIx>),
 ) -> Result<Row, NoMemory>
     requires { IsInside old.1.now broken.now }
-    ensures { IfOk result (λ (row : AnyRow). row ≡ record {
+    ensures row { IfOk result (λ (row : AnyRow). row ≡ record {
       rule = broken.now.rule;
       export = string_bytes trail.export;
       path = string_bytes trail.path;
@@ -161,6 +165,7 @@ pub fn type_row(
       old_entry = old.entry.0;
       new_entry = new.entry.0;
     }) }
+    ensures named { IfErr result (λ e. e ≡ Allocation) }
 {
     Ok(Row {
         rule: broken.rule,

@@ -1,5 +1,6 @@
 // What a row on two types says, rule by rule.
-ghost use Rattle.std.specs.Prelude.{◌≡◌, IfOk, string_bytes};
+ghost use Rattle.std.specs.Prelude.{◌≡◌, IfOk, string_bytes, IfErr};
+ghost use Rattle.abi_base.specs.declared.fault.NoMemory.TheVariants.{Allocation};
 ghost use Rattle.report.specs.Details.{IsInside};
 ghost use Rattle.report.specs.TypeRows as spec;
 
@@ -66,7 +67,8 @@ pub fn type_detail(
 // The value of a whole type, for a rule that speaks of no part.
 #[tactic(auto, unfolding(crate::specs::TypeRows::whole_value))]
 fn whole_value<Ix: Index>(alloc: Global, rule: Rule, view: &View<Ix>) -> Result<Value, NoMemory>
-    ensures { IfOk result (λ value. value ≡ spec.whole_value rule view.now) }
+    ensures value { IfOk result (λ value. value ≡ spec.whole_value rule view.now) }
+    ensures named { IfErr result (λ e. e ≡ Allocation) }
 {
     match rule {
         Rule::KindOfType => word(alloc, kind_word(view.kind)),
@@ -86,7 +88,8 @@ fn whole_value<Ix: Index>(alloc: Global, rule: Rule, view: &View<Ix>) -> Result<
 #[tactic(auto, unfolding(crate::specs::TypeRows::part_of))]
 pub fn part_of(alloc: Global, broken: &Broken, old: &View<OldIx>) -> Result<List<u8>, NoMemory>
     requires { IsInside old.now broken.now }
-    ensures { IfOk result (λ text. text ≡ spec.part_of broken.now.rule old.now broken.now.part) }
+    ensures part { IfOk result (λ text. text ≡ spec.part_of broken.now.rule old.now broken.now.part) }
+    ensures named { IfErr result (λ e. e ≡ Allocation) }
 {
     let i = broken.part;
     match broken.rule {
@@ -104,7 +107,8 @@ pub fn part_of(alloc: Global, broken: &Broken, old: &View<OldIx>) -> Result<List
 #[tactic(auto, unfolding(crate::specs::TypeRows::type_was))]
 pub fn type_was(alloc: Global, broken: &Broken, old: &View<OldIx>) -> Result<Value, NoMemory>
     requires { IsInside old.now broken.now }
-    ensures { IfOk result (λ value. value ≡ spec.type_was broken.now.rule old.now broken.now.part) }
+    ensures value { IfOk result (λ value. value ≡ spec.type_was broken.now.rule old.now broken.now.part) }
+    ensures named { IfErr result (λ e. e ≡ Allocation) }
 {
     let i = broken.part;
     match broken.rule {
@@ -127,7 +131,8 @@ pub fn type_is(
     new: &View<NewIx>,
 ) -> Result<Value, NoMemory>
     requires { IsInside old.now broken.now }
-    ensures { IfOk result (λ value. value ≡ spec.type_is broken.now.rule old.now new.now broken.now.part) }
+    ensures value { IfOk result (λ value. value ≡ spec.type_is broken.now.rule old.now new.now broken.now.part) }
+    ensures named { IfErr result (λ e. e ≡ Allocation) }
 {
     let i = broken.part;
     match broken.rule {

@@ -1,6 +1,7 @@
 // The values of rows on exports, and the parts of those on types.
-ghost use Rattle.std.specs.Prelude.{◌≡◌, ◌<◌, length, IfOk, string_bytes};
+ghost use Rattle.std.specs.Prelude.{◌≡◌, ◌<◌, length, IfOk, string_bytes, IfErr};
 ghost use Rattle.std.specs.Option.{option_copied};
+ghost use Rattle.abi_base.specs.declared.fault.NoMemory.TheVariants.{Allocation};
 ghost use Rattle.abi_types.specs.Graphs.{part_at};
 ghost use Rattle.abi_types.specs.Plain.{plain_export};
 ghost use Rattle.abi_types.specs.Shown.{label, shown};
@@ -28,14 +29,16 @@ fn bytes_of(text: String) -> List<u8>
 
 // A word as a value.
 pub(crate) fn word(alloc: Global, text: &str) -> Result<Value, NoMemory>
-    ensures { IfOk result (λ value. value ≡ Value.Word text.now) }
+    ensures value { IfOk result (λ value. value ≡ Value.Word text.now) }
+    ensures named { IfErr result (λ e. e ≡ Allocation) }
 {
     Ok(Value::Word(List::copy_of(alloc, text.as_bytes())?))
 }
 
 // A name in its printed form, as a value.
 fn shown_word(alloc: Global, name: &[u8]) -> Result<Value, NoMemory>
-    ensures { IfOk result (λ value. value ≡ Value.Word (shown name.now)) }
+    ensures value { IfOk result (λ value. value ≡ Value.Word (shown name.now)) }
+    ensures named { IfErr result (λ e. e ≡ Allocation) }
 {
     let mut text = String::new(alloc);
     push_shown(alloc, &mut text, name)?;
@@ -44,7 +47,8 @@ fn shown_word(alloc: Global, name: &[u8]) -> Result<Value, NoMemory>
 
 // A tag as a value, or no value if it is missing.
 pub(crate) fn tag_value(alloc: Global, tag: &[u8]) -> Result<Value, NoMemory>
-    ensures { IfOk result (λ value. value ≡ spec.tag_value tag.now) }
+    ensures value { IfOk result (λ value. value ≡ spec.tag_value tag.now) }
+    ensures named { IfErr result (λ e. e ≡ Allocation) }
 {
     match tag {
         [] => Ok(Value::Nothing),
@@ -54,7 +58,8 @@ pub(crate) fn tag_value(alloc: Global, tag: &[u8]) -> Result<Value, NoMemory>
 
 /// A soname as a value, or no value if it is missing.
 pub fn soname_value(alloc: Global, soname: Option<&[u8]>) -> Result<Value, NoMemory>
-    ensures { IfOk result (λ value. value ≡ spec.soname_value (option_copied soname.entry)) }
+    ensures value { IfOk result (λ value. value ≡ spec.soname_value (option_copied soname.entry)) }
+    ensures named { IfErr result (λ e. e ≡ Allocation) }
 {
     match soname {
         None => Ok(Value::Nothing),
@@ -66,7 +71,8 @@ pub fn soname_value(alloc: Global, soname: Option<&[u8]>) -> Result<Value, NoMem
 
 // The label of an export, as a value.
 fn label_word(alloc: Global, export: &Export) -> Result<Value, NoMemory>
-    ensures { IfOk result (λ value. value ≡ Value.Word (label (plain_export export.now))) }
+    ensures value { IfOk result (λ value. value ≡ Value.Word (label (plain_export export.now))) }
+    ensures named { IfErr result (λ e. e ≡ Allocation) }
 {
     let mut text = String::new(alloc);
     push_label(alloc, &mut text, export)?;
@@ -75,7 +81,8 @@ fn label_word(alloc: Global, export: &Export) -> Result<Value, NoMemory>
 
 /// The value of the export to which an old one binds; none if the rule says that something is gone.
 pub fn export_is(alloc: Global, rule: Rule, new: &Export) -> Result<Value, NoMemory>
-    ensures { IfOk result (λ value. value ≡ spec.export_is rule (plain_export new.now)) }
+    ensures value { IfOk result (λ value. value ≡ spec.export_is rule (plain_export new.now)) }
+    ensures named { IfErr result (λ e. e ≡ Allocation) }
 {
     match rule {
         Rule::ExportKind => word(alloc, new.kind.word()),
@@ -86,7 +93,8 @@ pub fn export_is(alloc: Global, rule: Rule, new: &Export) -> Result<Value, NoMem
 
 /// The value of the old export, or the label of one that is gone.
 pub fn export_was(alloc: Global, rule: Rule, old: &Export) -> Result<Value, NoMemory>
-    ensures { IfOk result (λ value. value ≡ spec.export_was rule (plain_export old.now)) }
+    ensures value { IfOk result (λ value. value ≡ spec.export_was rule (plain_export old.now)) }
+    ensures named { IfErr result (λ e. e ≡ Allocation) }
 {
     match rule {
         Rule::ExportPresence => label_word(alloc, old),
@@ -104,7 +112,8 @@ pub(crate) fn name_word<Ix: Index>(
     i: usize,
 ) -> Result<Value, NoMemory>
     requires { i < length view.now.parts }
-    ensures { IfOk result (λ value. value ≡ Value.Word (steps.part_name view.now i)) }
+    ensures value { IfOk result (λ value. value ≡ Value.Word (steps.part_name view.now i)) }
+    ensures named { IfErr result (λ e. e ≡ Allocation) }
 {
     let text = part_name(alloc, view, i)?;
     Ok(Value::Word(bytes_of(text)))
@@ -134,7 +143,8 @@ pub(crate) fn new_place(old: &View<OldIx>, new: &View<NewIx>, i: usize) -> Place
 
 // A place as a value.
 pub(crate) fn place_word(alloc: Global, place: &Place) -> Result<Value, NoMemory>
-    ensures { IfOk result (λ value. value ≡ Value.Word (places.place_text place.now)) }
+    ensures value { IfOk result (λ value. value ≡ Value.Word (places.place_text place.now)) }
+    ensures named { IfErr result (λ e. e ≡ Allocation) }
 {
     let text = place_text(alloc, place)?;
     Ok(Value::Word(bytes_of(text)))
@@ -143,7 +153,8 @@ pub(crate) fn place_word(alloc: Global, place: &Place) -> Result<Value, NoMemory
 // The step by a part.
 pub(crate) fn step_of(alloc: Global, old: &View<OldIx>, i: usize) -> Result<List<u8>, NoMemory>
     requires { i < length old.now.parts }
-    ensures { IfOk result (λ text. text ≡ steps.step_text old.now i) }
+    ensures text { IfOk result (λ text. text ≡ steps.step_text old.now i) }
+    ensures named { IfErr result (λ e. e ≡ Allocation) }
 {
     let mut text = String::new(alloc);
     push_step(alloc, &mut text, old, i)?;
@@ -153,7 +164,8 @@ pub(crate) fn step_of(alloc: Global, old: &View<OldIx>, i: usize) -> Result<List
 // The printed name of a part.
 pub(crate) fn name_of(alloc: Global, old: &View<OldIx>, i: usize) -> Result<List<u8>, NoMemory>
     requires { i < length old.now.parts }
-    ensures { IfOk result (λ text. text ≡ steps.part_name old.now i) }
+    ensures text { IfOk result (λ text. text ≡ steps.part_name old.now i) }
+    ensures named { IfErr result (λ e. e ≡ Allocation) }
 {
     let text = part_name(alloc, old, i)?;
     Ok(bytes_of(text))

@@ -20,8 +20,8 @@ loop-export-preserved c =
       known = c.in_ok-place.ensures.known;
     }
 
-pub returns : goal.returns
-returns c =
+pub returns-clause-places : goal.returns-clause-places
+returns-clause-places c =
     c.loop-export.invariant.places
     ∙ ap (λ (l : List PlainExport). bind_each l (plain_exports c.args.offered.now))
     (take_all c.loop-export.export-index (plain_exports c.args.wanted.now) (omega (arith, c.loop-export-test.false, length-map c.args.wanted.now plain_export)))
