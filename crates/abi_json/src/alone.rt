@@ -9,6 +9,7 @@ use crate::files::bytes_of;
 use crate::told::Told;
 use crate::wanted::Wanted;
 use abi_base::NoMemory;
+use cli_args::commands::CheckWords;
 use cli_args::{ParsedArguments, Request, parse_arguments};
 use commands::{File, Input, Outcome, Verdict};
 use serde_json::Value;
@@ -35,16 +36,8 @@ fn check_words<'a>(alloc: Global, words: &[&'a str]) -> Result<Vec<&'a str>, NoM
     Ok(check)
 }
 
-// The files that the arguments of a `check` name, or the outcome if these are wrong or request the help.
-fn named_files<'a>(
-    alloc: Global,
-    words: &'a [&'a str],
-) -> Result<Result<Vec<File<'a>>, Outcome>, NoMemory> {
-    let asked = match parse_arguments(alloc, words)? {
-        ParsedArguments::Request(Request::Check(asked)) => asked,
-        ParsedArguments::Help => return Ok(Err(Outcome::Help)),
-        _ => return Ok(Err(Outcome::Usage)),
-    };
+// The files that a `check` names.
+fn files_of(alloc: Global, asked: CheckWords<'_>) -> Result<Vec<File<'_>>, NoMemory> {
     let mut files = Vec::new(alloc);
     files.push(File {
         which: Input::Old,
@@ -60,7 +53,19 @@ fn named_files<'a>(
             name,
         })?;
     }
-    Ok(Ok(files))
+    Ok(files)
+}
+
+// The files that the arguments of a `check` name, or the outcome if these are wrong or request the help.
+fn named_files<'a>(
+    alloc: Global,
+    words: &'a [&'a str],
+) -> Result<Result<Vec<File<'a>>, Outcome>, NoMemory> {
+    match parse_arguments(alloc, words)? {
+        ParsedArguments::Request(Request::Check(asked)) => Ok(Ok(files_of(alloc, asked)?)),
+        ParsedArguments::Help => Ok(Err(Outcome::Help)),
+        _ => Ok(Err(Outcome::Usage)),
+    }
 }
 
 // The bytes of an input; for a rule file that is not named, no bytes.
@@ -82,25 +87,37 @@ fn bytes_in<R: Files + AllocGlobal>(
     Ok(Vec::new(rt.alloc()))
 }
 
+// The bytes of the inputs of a `check`.
+#[derive(Drop)]
+struct CheckInputs {
+    old: Vec<u8>,
+    new: Vec<u8>,
+    rules: Vec<u8>,
+}
+
+// Reads the inputs of a `check`, or returns the outcome that one cannot be read.
+fn inputs_in<R: Files + AllocGlobal>(rt: &R, files: &[File<'_>]) -> Result<CheckInputs, Outcome>
+    ensures old { IfOk result (λ inputs. length inputs.old.items ≤ input_limit) }
+    ensures new { IfOk result (λ inputs. length inputs.new.items ≤ input_limit) }
+{
+    let old = bytes_in(rt, files, Input::Old)?;
+    let new = bytes_in(rt, files, Input::New)?;
+    let rules = bytes_in(rt, files, Input::Rules)?;
+    Ok(CheckInputs { old, new, rules })
+}
+
 // The notes on files, and the outcome.
 fn notes_on_files<R: Files + AllocGlobal>(
     rt: &R,
     files: &[File<'_>],
 ) -> Result<(Value, Outcome), NoMemory> {
-    let old = match bytes_in(rt, files, Input::Old) {
-        Ok(old) => old,
-        Err(outcome) => return Ok((Value::Null, outcome)),
-    };
-    let new = match bytes_in(rt, files, Input::New) {
-        Ok(new) => new,
-        Err(outcome) => return Ok((Value::Null, outcome)),
-    };
-    let rules = match bytes_in(rt, files, Input::Rules) {
-        Ok(rules) => rules,
-        Err(outcome) => return Ok((Value::Null, outcome)),
-    };
-    let notes = notes_value(rt.alloc(), &old, &new, &rules)?;
-    Ok((notes, Outcome::Judged(Verdict::Done, None)))
+    match inputs_in(rt, files) {
+        Ok(CheckInputs { old, new, rules }) => {
+            let notes = notes_value(rt.alloc(), &old, &new, &rules)?;
+            Ok((notes, Outcome::Judged(Verdict::Done, None)))
+        }
+        Err(outcome) => Ok((Value::Null, outcome)),
+    }
 }
 
 // The text of a document: the usage, where the arguments are wrong or request the help.

@@ -7,15 +7,19 @@ use crate::files::bytes_of;
 use abi_base::NoMemory;
 use commands::{Input, Outcome};
 use explain::name_of;
-use serde_json::{Value, json};
+use serde_json::{Map, Value, put};
 use side_notes::all_notes;
 use std::alloc::{AllocError, Global};
 use std::rt::Files;
 use std::str;
 use type_notes::Note;
 
-// The bytes of an input; none if it was not read under a name, or cannot be read again.
-fn input_bytes<R: Files + AllocGlobal>(rt: &R, ending: &Ending<'_>, which: Input) -> Vec<u8>
+/// The bytes of an input; none if it was not read under a name, or cannot be read again.
+pub(crate) fn input_bytes<R: Files + AllocGlobal>(
+    rt: &R,
+    ending: &Ending<'_>,
+    which: Input,
+) -> Vec<u8>
     ensures { length result.items ≤ input_limit }
 {
     let Some(path) = name_of(ending.files, which) else {
@@ -38,19 +42,35 @@ fn text_value(alloc: Global, text: &[u8]) -> Result<Value, AllocError> {
     }
 }
 
+// Adds a member that is a text, or null if the text is empty.
+fn put_text(
+    alloc: Global,
+    object: &mut Map<String, Value>,
+    member: &str,
+    text: &[u8],
+) -> Result<(), AllocError> {
+    let value = text_value(alloc, text)?;
+    put(object, alloc, member, value)
+}
+
 // The object of a note.
 fn note_value(alloc: Global, note: &Note) -> Result<Value, AllocError> {
-    let export = text_value(alloc, note.export.as_slice())?;
-    let path = text_value(alloc, note.path.as_slice())?;
-    let was = text_value(alloc, note.was.as_slice())?;
-    let is = text_value(alloc, note.is.as_slice())?;
-    json!(in alloc; {
-        "kind": note.kind.name(),
-        "export": export,
-        "path": path,
-        "was": was,
-        "is": is
-    })
+    let mut object = Map::new(alloc);
+    put_text(alloc, &mut object, "kind", note.kind.name().as_bytes())?;
+    put_text(alloc, &mut object, "export", note.export.as_slice())?;
+    put_text(alloc, &mut object, "path", note.path.as_slice())?;
+    put_text(alloc, &mut object, "was", note.was.as_slice())?;
+    put_text(alloc, &mut object, "is", note.is.as_slice())?;
+    Ok(Value::Object(object))
+}
+
+// The objects of notes.
+fn note_values(alloc: Global, notes: &[Note]) -> Result<Vec<Value>, AllocError> {
+    let mut list = Vec::new(alloc);
+    for note in notes {
+        list.push(note_value(alloc, note)?)?;
+    }
+    Ok(list)
 }
 
 // Whether two libraries were judged by `check`.
@@ -72,14 +92,10 @@ pub(crate) fn notes_value(
     requires old_short { length old.now ≤ input_limit }
     requires new_short { length new.now ≤ input_limit }
 {
-    let Ok(notes) = all_notes(alloc, old, new, rules) else {
-        return Ok(Value::Null);
-    };
-    let mut list = Vec::new(alloc);
-    for note in notes.as_slice() {
-        list.push(note_value(alloc, note)?)?;
+    match all_notes(alloc, old, new, rules) {
+        Ok(notes) => Ok(Value::Array(note_values(alloc, notes.as_slice())?)),
+        Err(_) => Ok(Value::Null),
     }
-    Ok(Value::Array(list))
 }
 
 /// The notes on two libraries that `check` judged, as an array. It is null if they are not wanted, or if memory runs out for them.

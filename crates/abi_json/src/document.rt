@@ -3,18 +3,17 @@ ghost use Rattle.std.specs.Prelude.{◌≡◌, drop, IfOk};
 ghost use Rattle.abi_json.specs.Documents.{IsDocument};
 ghost use Rattle.abi_json.specs.Documents as spec;
 
-use crate::files::bytes_of;
-use crate::libraries::{InputFacts, input_facts};
+use crate::beside::input_bytes;
+use crate::libraries::{InputFacts, input_facts, text_value};
 use crate::places::TypeFacts;
 use crate::wanted::Wanted;
 use abi_base::{Fault, NoMemory, Remark, SizedExports};
 use commands::{File, Input, Outcome, Verdict};
-use explain::{name_of, notes_on, other_input_sentence};
+use explain::{notes_on, other_input_sentence};
 use json_report::with_member;
 use serde_json::{Map, Value, json, put};
 use std::alloc::{AllocError, Global};
 use std::rt::Files;
-use std::str;
 
 // The version of the format. It changes if a member is removed or gets another meaning.
 const FORMAT: u64 = 1;
@@ -71,46 +70,67 @@ fn fault_of(alloc: Global, outcome: Outcome) -> Result<Value, AllocError> {
     }
 }
 
+// The numbers of a library's exports with a size: of all, and of those without a type.
 fn sized_value(alloc: Global, exports: SizedExports) -> Result<Value, AllocError> {
     json!(in alloc; {"all": exports.all as u64, "untyped": exports.untyped as u64})
+}
+
+// The numbers of both libraries' exports with a size.
+fn remark_value(alloc: Global, remark: Remark) -> Result<Value, AllocError> {
+    let mut sides = Map::new(alloc);
+    put(&mut sides, alloc, "old", sized_value(alloc, remark.old)?)?;
+    put(&mut sides, alloc, "new", sized_value(alloc, remark.new)?)?;
+    Ok(Value::Object(sides))
 }
 
 // The number of exports of both libraries without a type, or null.
 fn untyped_of(alloc: Global, outcome: Outcome) -> Result<Value, AllocError> {
     match outcome {
-        Outcome::Judged(_, Some(Remark { old, new })) => {
-            let old = sized_value(alloc, old)?;
-            let new = sized_value(alloc, new)?;
-            json!(in alloc; {"old": old, "new": new})
-        }
+        Outcome::Judged(_, Some(remark)) => remark_value(alloc, remark),
         _ => Ok(Value::Null),
     }
 }
 
-// The sentences beside the answer, as an array.
-fn notes_value<R: Files + AllocGlobal>(rt: &R, ending: &Ending<'_>) -> Result<Value, NoMemory> {
-    let alloc = rt.alloc();
+// The bytes of the input that has a fault, or none.
+fn faulty_bytes<R: Files + AllocGlobal>(rt: &R, ending: &Ending<'_>) -> Vec<u8> {
+    match ending.outcome {
+        Outcome::Unreadable(which, _) => input_bytes(rt, ending, which),
+        _ => Vec::new(rt.alloc()),
+    }
+}
+
+// The sentences beside the answer.
+fn sentences_of<R: Files + AllocGlobal>(
+    rt: &R,
+    ending: &Ending<'_>,
+) -> Result<Vec<String>, NoMemory> {
     let Ending {
         outcome,
         files,
         text,
         ..
     } = *ending;
-    let mut bytes = Vec::new(alloc);
-    if let Outcome::Unreadable(which, _) = outcome {
-        if let Some(path) = name_of(files, which) {
-            bytes = bytes_of(rt, path).unwrap_or(bytes);
-        }
+    let bytes = faulty_bytes(rt, ending);
+    let mut sentences = notes_on(rt.alloc(), outcome, files, &bytes, "reading failed")?;
+    if let Some(sentence) = other_input_sentence(rt.alloc(), files, text)? {
+        sentences.push(sentence)?;
     }
-    let mut notes = notes_on(alloc, outcome, files, &bytes, "reading failed")?;
-    if let Some(note) = other_input_sentence(alloc, files, text)? {
-        notes.push(note)?;
-    }
+    Ok(sentences)
+}
+
+// Texts, as an array.
+fn texts_value(alloc: Global, texts: &[String]) -> Result<Value, AllocError> {
     let mut list = Vec::new(alloc);
-    for note in &notes {
-        list.push(Value::try_from_str(alloc, note.as_str())?)?;
+    for text in texts {
+        list.push(Value::try_from_str(alloc, text.as_str())?)?;
     }
     Ok(Value::Array(list))
+}
+
+// The sentences beside the answer, as an array.
+fn sentences_value<R: Files + AllocGlobal>(rt: &R, ending: &Ending<'_>) -> Result<Value, NoMemory> {
+    let sentences = sentences_of(rt, ending)?;
+    Ok(texts_value(rt.alloc(), &sentences)?)
 }
 
 // The breaks, parsed from the text that the listener made.
@@ -150,30 +170,34 @@ fn breaks_of<'t>(outcome: Outcome, text: &'t [u8]) -> &'t [u8]
     }
 }
 
-// The members of a document about the inputs: their objects in order, and by library the positions and the names of the types in
-// breaks.
+// The facts about the types in breaks: their positions and their names, by library.
 #[derive(Drop)]
-struct InputMembers {
-    inputs: Vec<Value>,
+struct TypeMembers {
     places: Map<String, Value>,
     names: Map<String, Value>,
 }
 
+// The members of a document about the inputs: their objects in order, and the facts about types.
+#[derive(Drop)]
+struct InputMembers {
+    inputs: Vec<Value>,
+    types: TypeMembers,
+}
+
 // Adds the facts of a library about the types that breaks name. A rule file and a certificate have none.
-fn put_types(
+fn put_library(
     alloc: Global,
-    members: &mut InputMembers,
+    members: &mut TypeMembers,
     which: Input,
     types: TypeFacts,
-) -> Result<(), NoMemory> {
+) -> Result<(), AllocError> {
     if which != Input::Old && which != Input::New {
         return Ok(());
     }
     let TypeFacts { places, names } = types;
     let word = which.word();
     put(&mut members.places, alloc, word, Value::Object(places))?;
-    put(&mut members.names, alloc, word, Value::Object(names))?;
-    Ok(())
+    put(&mut members.names, alloc, word, Value::Object(names))
 }
 
 // Adds the members about an input.
@@ -186,7 +210,8 @@ fn push_input<R: Files + AllocGlobal>(
 ) -> Result<(), NoMemory> {
     let InputFacts { input, types } = input_facts(rt, file, breaks, with_digests)?;
     members.inputs.push(input)?;
-    put_types(rt.alloc(), members, file.which, types)
+    put_library(rt.alloc(), &mut members.types, file.which, types)?;
+    Ok(())
 }
 
 // The members about all inputs.
@@ -198,8 +223,10 @@ fn input_members<R: Files + AllocGlobal>(
     let breaks = breaks_in(alloc, breaks_of(ending.outcome, ending.text));
     let mut members = InputMembers {
         inputs: Vec::new(alloc),
-        places: Map::new(alloc),
-        names: Map::new(alloc),
+        types: TypeMembers {
+            places: Map::new(alloc),
+            names: Map::new(alloc),
+        },
     };
     for file in ending.files {
         push_input(rt, &mut members, *file, &breaks, ending.wanted.digests)?;
@@ -219,12 +246,70 @@ fn of_report(outcome: Outcome, map: Map<String, Value>) -> Value {
 // The text that `abi` prints, or null if the breaks replace it.
 fn text_of(alloc: Global, outcome: Outcome, text: &[u8]) -> Result<Value, AllocError> {
     if is_report(outcome) {
-        return Ok(Value::Null);
+        Ok(Value::Null)
+    } else {
+        text_value(alloc, text)
     }
-    match str::from_utf8(text) {
-        Ok(text) => Value::try_from_str(alloc, text),
-        Err(_) => Ok(Value::Null),
-    }
+}
+
+// Adds the format of the document, the command and how it ended.
+fn put_outcome(
+    alloc: Global,
+    head: &mut Map<String, Value>,
+    ending: &Ending<'_>,
+) -> Result<(), AllocError> {
+    let command = ending.words.first().copied().unwrap_or("");
+    let answer = answer_word(ending.outcome);
+    let status = u64::from(ending.outcome.number());
+    put(head, alloc, "format", Value::from(FORMAT))?;
+    put(head, alloc, "command", Value::try_from_str(alloc, command)?)?;
+    put(head, alloc, "answer", Value::try_from_str(alloc, answer)?)?;
+    put(head, alloc, "status", Value::from(status))
+}
+
+// Adds the objects of the inputs, and returns the facts about the types in breaks.
+fn put_inputs<R: Files + AllocGlobal>(
+    rt: &R,
+    head: &mut Map<String, Value>,
+    ending: &Ending<'_>,
+) -> Result<TypeMembers, NoMemory> {
+    let InputMembers { inputs, types } = input_members(rt, ending)?;
+    put(head, rt.alloc(), "inputs", Value::Array(inputs))?;
+    Ok(types)
+}
+
+// Adds the fault of an input, and the number of exports without a type.
+fn put_remarks(
+    alloc: Global,
+    head: &mut Map<String, Value>,
+    outcome: Outcome,
+) -> Result<(), AllocError> {
+    put(head, alloc, "fault", fault_of(alloc, outcome)?)?;
+    put(head, alloc, "untyped", untyped_of(alloc, outcome)?)
+}
+
+// Adds the sentences beside the answer, and the notes on differences that no rule judges.
+fn put_notes<R: Files + AllocGlobal>(
+    rt: &R,
+    head: &mut Map<String, Value>,
+    ending: &Ending<'_>,
+    side_notes: Value,
+) -> Result<(), NoMemory> {
+    put(head, rt.alloc(), "notes", sentences_value(rt, ending)?)?;
+    put(head, rt.alloc(), "side_notes", side_notes)?;
+    Ok(())
+}
+
+// Adds the facts about the types in breaks.
+fn put_types(
+    alloc: Global,
+    head: &mut Map<String, Value>,
+    outcome: Outcome,
+    types: TypeMembers,
+) -> Result<(), AllocError> {
+    let TypeMembers { places, names } = types;
+    put(head, alloc, "places", of_report(outcome, places))?;
+    put(head, alloc, "types", of_report(outcome, names))
 }
 
 // All members except the breaks.
@@ -234,47 +319,14 @@ fn head_of<R: Files + AllocGlobal>(
     side_notes: Value,
 ) -> Result<Value, NoMemory> {
     let alloc = rt.alloc();
-    let members = input_members(rt, ending)?;
     let mut head = Map::new(alloc);
-    let Ending {
-        words,
-        outcome,
-        text,
-        ..
-    } = *ending;
-    let command = words.first().copied().unwrap_or("");
-    put(&mut head, alloc, "format", Value::from(FORMAT))?;
-    put(
-        &mut head,
-        alloc,
-        "command",
-        Value::try_from_str(alloc, command)?,
-    )?;
-    put(
-        &mut head,
-        alloc,
-        "answer",
-        Value::try_from_str(alloc, answer_word(outcome))?,
-    )?;
-    put(
-        &mut head,
-        alloc,
-        "status",
-        Value::from(u64::from(outcome.number())),
-    )?;
-    put(&mut head, alloc, "inputs", Value::Array(members.inputs))?;
-    put(&mut head, alloc, "fault", fault_of(alloc, outcome)?)?;
-    put(&mut head, alloc, "untyped", untyped_of(alloc, outcome)?)?;
-    put(&mut head, alloc, "notes", notes_value(rt, ending)?)?;
-    put(&mut head, alloc, "side_notes", side_notes)?;
-    put(
-        &mut head,
-        alloc,
-        "places",
-        of_report(outcome, members.places),
-    )?;
-    put(&mut head, alloc, "types", of_report(outcome, members.names))?;
-    put(&mut head, alloc, "text", text_of(alloc, outcome, text)?)?;
+    put_outcome(alloc, &mut head, ending)?;
+    let types = put_inputs(rt, &mut head, ending)?;
+    put_remarks(alloc, &mut head, ending.outcome)?;
+    put_notes(rt, &mut head, ending, side_notes)?;
+    put_types(alloc, &mut head, ending.outcome, types)?;
+    let text = text_of(alloc, ending.outcome, ending.text)?;
+    put(&mut head, alloc, "text", text)?;
     Ok(Value::Object(head))
 }
 

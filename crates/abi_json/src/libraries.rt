@@ -8,7 +8,7 @@ use abi_base::NoMemory;
 use commands::{File, Input};
 use elf::file::read_elf;
 use elf::symbols::soname;
-use serde_json::{Value, json};
+use serde_json::{Map, Value, put};
 use sha2::{Digest, Sha256};
 use std::alloc::{AllocError, Global};
 use std::rt::Files;
@@ -23,8 +23,8 @@ pub(crate) struct InputFacts {
     pub types: TypeFacts,
 }
 
-// Bytes as a text, or null if they are not UTF-8.
-fn text_value(alloc: Global, bytes: &[u8]) -> Result<Value, AllocError> {
+/// Bytes as a text, or null if they are not UTF-8.
+pub(crate) fn text_value(alloc: Global, bytes: &[u8]) -> Result<Value, AllocError> {
     match str::from_utf8(bytes) {
         Ok(text) => Value::try_from_str(alloc, text),
         Err(_) => Ok(Value::Null),
@@ -32,7 +32,7 @@ fn text_value(alloc: Global, bytes: &[u8]) -> Result<Value, AllocError> {
 }
 
 // The soname of a library, or null.
-fn soname_value(alloc: Global, bytes: &[u8]) -> Result<Value, AllocError>
+fn soname_of_library(alloc: Global, bytes: &[u8]) -> Result<Value, AllocError>
     requires { length bytes.now ≤ input_limit }
 {
     let Ok(file) = read_elf(bytes) else {
@@ -62,6 +62,27 @@ fn digest_value(alloc: Global, bytes: &[u8], is_wanted: bool) -> Result<Value, A
     Value::try_from_str(alloc, digits.as_str())
 }
 
+// The soname of an input, or null if it is no library or has none.
+fn soname_value(alloc: Global, which: Input, bytes: &[u8]) -> Result<Value, AllocError>
+    requires { length bytes.now ≤ input_limit }
+{
+    if is_library(which) {
+        soname_of_library(alloc, bytes)
+    } else {
+        Ok(Value::Null)
+    }
+}
+
+// The role and the name of an input.
+fn named(alloc: Global, file: File<'_>) -> Result<Map<String, Value>, AllocError> {
+    let mut input = Map::new(alloc);
+    let role = Value::try_from_str(alloc, file.which.word())?;
+    put(&mut input, alloc, "input", role)?;
+    let name = Value::try_from_str(alloc, file.name)?;
+    put(&mut input, alloc, "name", name)?;
+    Ok(input)
+}
+
 // The object of an input with these bytes: its role, its name, its SHA-256, and the soname of a library.
 fn input_value(
     alloc: Global,
@@ -71,18 +92,20 @@ fn input_value(
 ) -> Result<Value, AllocError>
     requires { length bytes.now ≤ input_limit }
 {
+    let mut input = named(alloc, file)?;
     let digest = digest_value(alloc, bytes, with_digests)?;
-    let name = if is_library(file.which) {
-        soname_value(alloc, bytes)?
-    } else {
-        Value::Null
-    };
-    json!(in alloc; {"input": file.which.word(), "name": file.name, "sha256": digest, "soname": name})
+    put(&mut input, alloc, "sha256", digest)?;
+    let soname = soname_value(alloc, file.which, bytes)?;
+    put(&mut input, alloc, "soname", soname)?;
+    Ok(Value::Object(input))
 }
 
 // The object of an input that could not be read again.
 fn unread_value(alloc: Global, file: File<'_>) -> Result<Value, AllocError> {
-    json!(in alloc; {"input": file.which.word(), "name": file.name, "sha256": null, "soname": null})
+    let mut input = named(alloc, file)?;
+    put(&mut input, alloc, "sha256", Value::Null)?;
+    put(&mut input, alloc, "soname", Value::Null)?;
+    Ok(Value::Object(input))
 }
 
 // The member of breaks that holds entries of this input, if there is one.
@@ -94,6 +117,44 @@ fn entry_word(which: Input) -> Option<&'static str> {
     }
 }
 
+// The facts about an input that could not be read again.
+fn unread_facts(alloc: Global, file: File<'_>) -> Result<InputFacts, NoMemory> {
+    Ok(InputFacts {
+        input: unread_value(alloc, file)?,
+        types: TypeFacts::none(alloc),
+    })
+}
+
+// The facts about the types of an input that breaks name.
+fn types_in(
+    alloc: Global,
+    which: Input,
+    bytes: &[u8],
+    breaks: &[Value],
+) -> Result<TypeFacts, NoMemory>
+    requires { length bytes.now ≤ input_limit }
+{
+    match entry_word(which) {
+        Some(word) => type_facts(alloc, bytes, breaks, word),
+        None => Ok(TypeFacts::none(alloc)),
+    }
+}
+
+// The facts about an input with these bytes.
+fn facts_in(
+    alloc: Global,
+    file: File<'_>,
+    bytes: &[u8],
+    breaks: &[Value],
+    with_digests: bool,
+) -> Result<InputFacts, NoMemory>
+    requires { length bytes.now ≤ input_limit }
+{
+    let types = types_in(alloc, file.which, bytes, breaks)?;
+    let input = input_value(alloc, file, bytes, with_digests)?;
+    Ok(InputFacts { input, types })
+}
+
 /// Reads an input again, and returns the facts about it.
 pub(crate) fn input_facts<R: Files + AllocGlobal>(
     rt: &R,
@@ -101,19 +162,8 @@ pub(crate) fn input_facts<R: Files + AllocGlobal>(
     breaks: &[Value],
     with_digests: bool,
 ) -> Result<InputFacts, NoMemory> {
-    let alloc = rt.alloc();
-    let Some(bytes) = bytes_of(rt, file.name) else {
-        return Ok(InputFacts {
-            input: unread_value(alloc, file)?,
-            types: TypeFacts::none(alloc),
-        });
-    };
-    let types = match entry_word(file.which) {
-        Some(word) => type_facts(alloc, &bytes, breaks, word)?,
-        None => TypeFacts::none(alloc),
-    };
-    Ok(InputFacts {
-        input: input_value(alloc, file, &bytes, with_digests)?,
-        types,
-    })
+    match bytes_of(rt, file.name) {
+        Some(bytes) => facts_in(rt.alloc(), file, &bytes, breaks, with_digests),
+        None => unread_facts(rt.alloc(), file),
+    }
 }

@@ -9,7 +9,7 @@ use elf::file::read_elf;
 use elf::sections::debug_sections;
 use entry_places::{EntryPlaces, PlaceReader};
 use serde_json::{Map, Value, json, put};
-use std::alloc::Global;
+use std::alloc::{AllocError, Global};
 use std::collections::{HashMap, HashSet};
 use std::str;
 
@@ -38,9 +38,9 @@ impl TypeFacts {
     }
 }
 
-// The budget for the source positions in a file with these bytes, or for the names of its typedefs.
-fn effort_for(bytes: &[u8]) -> Effort {
-    let counted = (bytes.len() / FILE_BYTES).saturating_add(BYTES_BESIDE);
+// The budget for the source positions in a file of this length, or for the names of its typedefs.
+fn effort_for(length: usize) -> Effort {
+    let counted = (length / FILE_BYTES).saturating_add(BYTES_BESIDE);
     Effort::for_bytes(Limit::Report, counted)
 }
 
@@ -59,6 +59,18 @@ fn place_value(
     }
 }
 
+// Adds a fact about an entry under its offset.
+fn put_fact(
+    alloc: Global,
+    map: &mut Map<String, Value>,
+    offset: DebugInfoOffset,
+    fact: Value,
+) -> Result<(), AllocError> {
+    let offset = offset.get();
+    let key = format!(in alloc; "{offset}")?;
+    put(map, alloc, key.as_str(), fact)
+}
+
 // Adds the source position of an entry under its offset, if it has one.
 fn put_place(
     alloc: Global,
@@ -70,9 +82,8 @@ fn put_place(
     if place.is_null() {
         return Ok(());
     }
-    let offset = offset.get();
-    let key = format!(in alloc; "{offset}")?;
-    Ok(put(map, alloc, key.as_str(), place)?)
+    put_fact(alloc, map, offset, place)?;
+    Ok(())
 }
 
 // Adds the name of a type under the offset of its entry, if it has one.
@@ -85,10 +96,9 @@ fn put_name(
     let Some(name) = type_name(alloc, names, offset)? else {
         return Ok(());
     };
-    let offset = offset.get();
-    let key = format!(in alloc; "{offset}")?;
     let name = Value::try_from_str(alloc, name.as_str())?;
-    Ok(put(map, alloc, key.as_str(), name)?)
+    put_fact(alloc, map, offset, name)?;
+    Ok(())
 }
 
 // The entries in a member of the breaks, each once.
@@ -123,19 +133,56 @@ fn wanted_typedefs(
     Ok(HashMap::new(alloc))
 }
 
-// Adds the source positions and the names of entries to maps.
-fn put_all(
+// The source positions and the names of entries.
+fn facts_by(
     alloc: Global,
-    facts: &mut TypeFacts,
     places: &mut PlaceReader<'_, '_>,
     names: &mut TypeNames<'_, '_>,
     offsets: &[DebugInfoOffset],
-) -> Result<(), NoMemory> {
+) -> Result<TypeFacts, NoMemory> {
+    let mut facts = TypeFacts::none(alloc);
     for offset in offsets {
         put_place(alloc, &mut facts.places, places, *offset)?;
         put_name(alloc, &mut facts.names, names, *offset)?;
     }
-    Ok(())
+    Ok(facts)
+}
+
+// The source positions and the names of entries of a library, given its entries and the length of its file.
+fn facts_in(
+    alloc: Global,
+    places: &EntryPlaces<'_>,
+    entries: NamedEntries<'_, '_>,
+    offsets: &[DebugInfoOffset],
+    length: usize,
+) -> Result<TypeFacts, NoMemory> {
+    let typedefs = wanted_typedefs(alloc, &entries, offsets)?;
+    let mut names = TypeNames {
+        entries,
+        typedefs,
+        effort: effort_for(length),
+    };
+    let mut reader = PlaceReader::new(alloc, effort_for(length), places);
+    facts_by(alloc, &mut reader, &mut names, offsets)
+}
+
+// The source positions and the names of entries of a library with these bytes.
+fn facts_at(alloc: Global, bytes: &[u8], offsets: &[DebugInfoOffset]) -> Result<TypeFacts, NoMemory>
+    requires { length bytes.now ≤ input_limit }
+{
+    let Ok(file) = read_elf(bytes) else {
+        return Ok(TypeFacts::none(alloc));
+    };
+    let sections = debug_sections(&file);
+    let line = file.section(b".debug_line").unwrap_or(&[]);
+    let Some(places) = EntryPlaces::read(alloc, &sections, line)? else {
+        return Ok(TypeFacts::none(alloc));
+    };
+    let entries = NamedEntries {
+        tree: places.tree(),
+        sections,
+    };
+    facts_in(alloc, &places, entries, offsets, bytes.len())
 }
 
 /// The source positions and the names of the entries in this member of the breaks, for a library with these bytes.
@@ -147,28 +194,9 @@ pub(crate) fn type_facts(
 ) -> Result<TypeFacts, NoMemory>
     requires { length bytes.now ≤ input_limit }
 {
-    let mut facts = TypeFacts::none(alloc);
     let offsets = entries_of(alloc, breaks, word)?;
-    let Ok(file) = read_elf(bytes) else {
-        return Ok(facts);
-    };
     if offsets.is_empty() {
-        return Ok(facts);
+        return Ok(TypeFacts::none(alloc));
     }
-    let sections = debug_sections(&file);
-    let line = file.section(b".debug_line").unwrap_or(&[]);
-    let Some(places) = EntryPlaces::read(alloc, &sections, line)? else {
-        return Ok(facts);
-    };
-    let tree = places.tree();
-    let entries = NamedEntries { tree, sections };
-    let typedefs = wanted_typedefs(alloc, &entries, &offsets)?;
-    let mut names = TypeNames {
-        entries,
-        typedefs,
-        effort: effort_for(bytes),
-    };
-    let mut reader = PlaceReader::new(alloc, effort_for(bytes), &places);
-    put_all(alloc, &mut facts, &mut reader, &mut names, &offsets)?;
-    Ok(facts)
+    facts_at(alloc, bytes, &offsets)
 }

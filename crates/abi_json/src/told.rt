@@ -1,7 +1,7 @@
 // A run that makes a document.
 ghost use Rattle.std.specs.Prelude.{◌≡◌, ◌∷◌, [], Option, All, IfOk, OnOk, map};
 ghost use Rattle.abi_base.specs.declared.remark.Remark.{Remark as AnyRemark};
-ghost use Rattle.abi_json.specs.Documents.{TellsBreaks};
+ghost use Rattle.abi_json.specs.Documents.{IsDocument, TellsBreaks};
 ghost use Rattle.abi_top.specs.Calls.{Call, call_of};
 ghost use Rattle.json_report.specs.Breaks.{json_voice};
 
@@ -40,6 +40,14 @@ fn add_alone(
     Ok(())
 }
 
+// The document of a run, with the notes on differences that no rule judges if they are wanted.
+fn document_told<R: Files + AllocGlobal>(rt: &R, ending: &Ending<'_>) -> Result<Vec<u8>, NoMemory>
+    ensures { IfOk result (λ document. IsDocument ending.now.outcome ending.now.text.now document.items) }
+{
+    let side_notes = side_notes_value(rt, ending)?;
+    document_of(rt, ending, side_notes)
+}
+
 /// Runs the arguments over inputs with a listener that makes JSON of the breaks, and makes the document of the run, with the wanted
 /// optional members.
 pub(crate) fn told_of<R: Files + AllocGlobal, I: Inputs>(
@@ -54,9 +62,9 @@ pub(crate) fn told_of<R: Files + AllocGlobal, I: Inputs>(
         IfOk result (λ told. (untyped : Option AnyRemark) → told.outcome ≡ Outcome.Judged Verdict.No untyped → TellsBreaks call told.document.items) }
 {
     let alloc = rt.alloc();
-    let mut answer = TextSink::new(alloc);
     let mut listeners: Vec<Box<dyn Listener>> = Vec::new(alloc);
     add_alone(&mut listeners, Box::new(alloc, JsonListener::new(alloc))?)?;
+    let mut answer = TextSink::new(alloc);
     let ended = run(alloc, words, inputs, &mut answer, listeners);
     let outcome = ended.outcome;
     let ending = Ending {
@@ -66,7 +74,6 @@ pub(crate) fn told_of<R: Files + AllocGlobal, I: Inputs>(
         text: answer.held(),
         wanted,
     };
-    let side_notes = side_notes_value(rt, &ending)?;
-    let document = document_of(rt, &ending, side_notes)?;
+    let document = document_told(rt, &ending)?;
     Ok(Told { outcome, document })
 }

@@ -14,6 +14,16 @@ fn push_name(alloc: Global, text: &mut String, name: &[u8]) -> Result<(), AllocE
     push_shown(alloc, text, name)
 }
 
+// Appends the line of an export.
+fn push_export(alloc: Global, text: &mut String, export: &Export<'_>) -> Result<(), AllocError> {
+    let entry = export.entry;
+    text.push_str("export ")?;
+    push_label(alloc, text, export)?;
+    write!(text, " entry {entry} named ")?;
+    push_name(alloc, text, export.declared)?;
+    text.push('\n')
+}
+
 /// Appends a line for each export.
 pub(crate) fn push_exports(
     alloc: Global,
@@ -21,14 +31,15 @@ pub(crate) fn push_exports(
     exports: &[Export<'_>],
 ) -> Result<(), AllocError> {
     for export in exports {
-        let entry = export.entry;
-        text.push_str("export ")?;
-        push_label(alloc, text, export)?;
-        write!(text, " entry {entry} named ")?;
-        push_name(alloc, text, export.declared)?;
-        text.push('\n')?;
+        push_export(alloc, text, export)?;
     }
     Ok(())
+}
+
+// Appends a word and a name.
+fn push_named(alloc: Global, text: &mut String, word: &str, name: &[u8]) -> Result<(), AllocError> {
+    text.push_str(word)?;
+    push_name(alloc, text, name)
 }
 
 // Appends a part that names the entry at `to`.
@@ -45,13 +56,11 @@ fn push_part(
             width,
             ..
         } => {
-            text.push_str("member ")?;
-            push_name(alloc, text, name)?;
+            push_named(alloc, text, "member ", name)?;
             writeln!(text, " bit {bit} width {width} to {to}")
         }
         Part::Enumerator { name, value } => {
-            text.push_str("enumerator ")?;
-            push_name(alloc, text, name)?;
+            push_named(alloc, text, "enumerator ", name)?;
             writeln!(text, " {value}")
         }
         Part::Target { .. } => writeln!(text, "target {to}"),

@@ -21,15 +21,14 @@
 //! usage: graph_lines LIBRARY
 #![tactic(auto)]
 
-ghost use Rattle.std.specs.Prelude.{◌≤◌, length};
+ghost use Rattle.std.specs.Prelude.{◌≤◌, length, IfOk};
 ghost use Rattle.abi_base.specs.declared.TheConstants.{INPUT_LIMIT};
 
 mod lines;
 mod words;
 
 use abi_base::{
-    Fault, FileInputs, INPUT_LIMIT, Refusal, Sink, StdSink, Take, WriteFailed, read_whole,
-    write_all,
+    Fault, FileInputs, INPUT_LIMIT, Refusal, StdSink, Take, WriteFailed, read_whole, write_all,
 };
 use abi_types::{Library, OldIx};
 use library_read::read_library;
@@ -70,34 +69,58 @@ impl From<AllocError> for Stop {
     }
 }
 
-// Prints the lines of a library.
-fn print_library<S: Sink>(alloc: Global, bytes: &[u8], sink: &mut S) -> Result<(), Stop>
-    requires { length bytes.now ≤ INPUT_LIMIT }
-{
-    let library: Library<'_, OldIx> = read_library(alloc, bytes)?;
+// The lines of a library.
+fn text_of(alloc: Global, library: &Library<'_, OldIx>) -> Result<String, AllocError> {
     let mut text = String::new(alloc);
     push_exports(alloc, &mut text, library.exports())?;
     push_graph(alloc, &mut text, library.graph())?;
-    match write_all(sink, text.as_bytes()) {
+    Ok(text)
+}
+
+// The lines of the library with these bytes.
+fn library_text(alloc: Global, bytes: &[u8]) -> Result<String, Stop>
+    requires { length bytes.now ≤ INPUT_LIMIT }
+{
+    match read_library(alloc, bytes) {
+        Ok(library) => Ok(text_of(alloc, &library)?),
+        Err(refusal) => Err(Stop::from(refusal)),
+    }
+}
+
+// The bytes of a file.
+fn bytes_of<R: Files + AllocGlobal>(rt: &R, path: &str) -> Result<Vec<u8>, Stop>
+    ensures { IfOk result (λ bytes. length bytes.items ≤ INPUT_LIMIT) }
+{
+    let mut inputs = FileInputs::new(rt);
+    match read_whole(rt.alloc(), &mut inputs, path, INPUT_LIMIT) {
+        Ok(bytes) => Ok(bytes),
+        Err(Take::NoMemory) => Err(Stop::NoMemory),
+        Err(_) => Err(Stop::Input),
+    }
+}
+
+// Prints a text.
+fn print_text<R: Print>(rt: &R, text: &str) -> Result<(), Stop> {
+    let mut sink = StdSink::new(rt);
+    match write_all(&mut sink, text.as_bytes()) {
         Ok(()) => Ok(()),
         Err(WriteFailed) => Err(Stop::Output),
     }
 }
 
+// Prints the lines of the library at a path.
+fn list_library<R: Files + Print + AllocGlobal>(rt: &R, path: &str) -> Result<(), Stop> {
+    let bytes = bytes_of(rt, path)?;
+    let text = library_text(rt.alloc(), &bytes)?;
+    print_text(rt, text.as_str())
+}
+
+// Prints the lines of the library that the arguments name.
 fn list<R: Files + Print + Env + AllocGlobal>(rt: &R) -> Result<(), Stop> {
-    let path = match library_word(rt) {
-        Ok(Some(path)) => path,
-        Ok(None) => return Err(Stop::Words),
-        Err(_) => return Err(Stop::Words),
-    };
-    let mut inputs = FileInputs::new(rt);
-    let bytes = match read_whole(rt.alloc(), &mut inputs, path.as_str(), INPUT_LIMIT) {
-        Ok(bytes) => bytes,
-        Err(Take::NoMemory) => return Err(Stop::NoMemory),
-        Err(_) => return Err(Stop::Input),
-    };
-    let mut sink = StdSink::new(rt);
-    print_library(rt.alloc(), &bytes, &mut sink)
+    match library_word(rt) {
+        Ok(Some(path)) => list_library(rt, path.as_str()),
+        _ => Err(Stop::Words),
+    }
 }
 
 // The single argument, if exactly one is given.

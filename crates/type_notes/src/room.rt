@@ -13,7 +13,7 @@ use crate::noted_pair::NotedPair;
 use abi_base::dwarf::{
     DW_TAG_enumerator, DW_TAG_formal_parameter, DW_TAG_member, DW_TAG_subrange_type,
 };
-use abi_base::{Limit, NoMemory, taken};
+use abi_base::{Budget, Limit, NoMemory};
 use abi_types::{Graph, Index, Label};
 use dwarf_entries::Dwarf;
 use dwarf_forms::DebugInfoOffset;
@@ -21,12 +21,6 @@ use dwarf_tree::EntryNumber;
 use pair_explorer::Visit;
 use std::alloc::Global;
 use type_reach::{body_of, type_of};
-
-// The limit in bytes of names and texts: a number for each byte of both files, plus a constant. The notes on two builds of one source
-// take less than one byte for each byte of the files.
-const BYTES_A_BYTE: usize = 16;
-
-const BYTES_AT_LEAST: usize = 33_554_432;
 
 // What a part, a name or a step of a chain takes besides its letters.
 const PART: usize = 32;
@@ -37,12 +31,24 @@ const CHILD: usize = 4;
 // What a note takes besides its texts.
 const NOTE: usize = 128;
 
-/// The memory of the notes, and how many bytes of names and texts they may still take.
+// The number of pairs of an old and a new member of the types of a visit.
+fn member_pairs(ground: &NotedPair, visit: &Visit) -> usize
+    requires old { visit.now.old < length ground.now.pair.old.now.graph }
+    requires new { visit.now.new < length ground.now.pair.new.now.graph }
+{
+    let old = ground.pair.old.graph().view(visit.old);
+    let new = ground.pair.new.graph().view(visit.new);
+    old.parts_len().saturating_mul(new.parts_len())
+}
+
+/// The memory of the notes, and the budget for the bytes of their names and texts. The notes on two builds of one source take less
+/// than one byte for each byte of the files.
 #[derive(Drop)]
 pub(crate) struct NoteRoom {
     /// The allocator of the notes.
     pub alloc: Global,
-    left: usize,
+    budget: Budget,
+    ghost counts_notes: { budget.limit ≡ Notes },
 }
 
 impl NoteRoom {
@@ -52,10 +58,7 @@ impl NoteRoom {
         let new = ground.pair.new.file().len();
         NoteRoom {
             alloc,
-            left: old
-                .saturating_add(new)
-                .saturating_mul(BYTES_A_BYTE)
-                .saturating_add(BYTES_AT_LEAST),
+            budget: Budget::of_many(Limit::Notes, old.saturating_add(new)),
         }
     }
 
@@ -63,8 +66,7 @@ impl NoteRoom {
     fn take(&mut self, bytes: usize) -> Result<(), NoMemory>
         ensures { IfErr result (λ e. e ≡ Past Notes) }
     {
-        self.left = taken(Limit::Notes, self.left, bytes)?;
-        Ok(())
+        self.budget.take(bytes)
     }
 
     /// Takes the letters of a name. It fails where less room is left, and names the limit.
@@ -142,18 +144,22 @@ impl NoteRoom {
         }
     }
 
+    // Takes the two types of a visit.
+    fn take_types(&mut self, ground: &NotedPair, visit: &Visit) -> Result<(), NoMemory>
+        requires old { visit.now.old < length ground.now.pair.old.now.graph }
+        requires new { visit.now.new < length ground.now.pair.new.now.graph }
+    {
+        self.take_type(ground.old_dwarf, ground.pair.old.graph(), visit.old)?;
+        self.take_type(ground.new_dwarf, ground.pair.new.graph(), visit.new)
+    }
+
     /// Takes the two types of a visit, and a comparison of each new member with each old one.
     pub(crate) fn take_visit(&mut self, ground: &NotedPair, visit: &Visit) -> Result<(), NoMemory>
         requires old { visit.now.old < length ground.now.pair.old.now.graph }
         requires new { visit.now.new < length ground.now.pair.new.now.graph }
     {
-        let old = ground.pair.old.graph();
-        let new = ground.pair.new.graph();
-        self.take_type(ground.old_dwarf, old, visit.old)?;
-        self.take_type(ground.new_dwarf, new, visit.new)?;
-        let old_parts = old.view(visit.old).parts_len();
-        let new_parts = new.view(visit.new).parts_len();
-        self.take(old_parts.saturating_mul(new_parts))
+        self.take_types(ground, visit)?;
+        self.take(member_pairs(ground, visit))
     }
 
     // Takes the chain of types of a member, with the dimensions of its arrays.

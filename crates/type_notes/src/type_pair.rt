@@ -4,9 +4,9 @@ use abi_types::{Graph, NewIx, OldIx};
 /// Whether each node of an old and of a new library's graph is packed, by its number.
 #[derive(Clone, Copy)]
 pub struct Packed<'x> {
-    /// Whether each old node is.
+    /// Whether each node of the old graph is packed.
     pub old: &'x [bool],
-    /// Whether each new node is.
+    /// Whether each node of the new graph is packed.
     pub new: &'x [bool],
 }
 

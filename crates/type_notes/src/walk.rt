@@ -1,5 +1,5 @@
 // The notes on all types that are compared between two libraries.
-ghost use Rattle.std.specs.Prelude.{◌≡◌, ◌<◌, ◌+◌, ◌++◌, ◌||◌, ℕ, length, map, nat_eq, IfOk, IfSome, OnOk};
+ghost use Rattle.std.specs.Prelude.{◌≡◌, ◌<◌, ◌+◌, ◌++◌, ◌||◌, ℕ, length, map, nat_eq, All, IfOk, IfSome, OnOk};
 ghost use Rattle.std.specs.HashSet.{contains};
 ghost use Rattle.pair_compare.specs.BoundPair.{IsBinding, sides_of};
 ghost use Rattle.pair_compare.specs.Marking.{AreMarksOf};
@@ -7,6 +7,7 @@ ghost use Rattle.pair_explorer.specs.Visits.{AreEarlier};
 ghost use Rattle.pair_rules.specs.Steps as steps_spec;
 ghost use Rattle.cert_check.specs.Compatible.{task_of};
 ghost use Rattle.type_notes.specs.DefinedElsewhere.{AreOfBoth, definitions_behind};
+ghost use Rattle.type_notes.specs.DefinedElsewhere as elsewhere_spec;
 ghost use Rattle.type_notes.specs.TypePairs.{ArePacked};
 ghost use Rattle.type_notes.specs.NotedPairs.{AreAlone, AreCompared, AreNotes, AreReadable, IsReadable, change_behind, change_unless, defined_behind, difference_note, differences_of, is_of, new_core, noted_at, noted_pair, notes_at, notes_below, old_core};
 
@@ -81,6 +82,39 @@ fn push_all(
     Ok(())
 }
 
+// The debug entries of both libraries.
+fn dwarfs_of<'x, 'd, 'e>(ground: &NotedPair<'x, '_, '_, 'd, 'e>) -> DwarfPair<'x, 'd, 'e>
+    ensures old { result.old.now ≡ ground.now.old_dwarf.now }
+    ensures new { result.new.now ≡ ground.now.new_dwarf.now }
+{
+    DwarfPair {
+        old: ground.old_dwarf,
+        new: ground.new_dwarf,
+    }
+}
+
+// The types of a visit, with the lists of which nodes are packed.
+fn types_at<'x, 'o, 'n>(
+    ground: &NotedPair<'x, 'o, 'n, '_, '_>,
+    packed: Packed<'x>,
+    visit: &Visit,
+) -> TypePair<'x, 'o, 'n>
+    ensures old_graph { result.old_graph.now ≡ ground.now.pair.old.now.graph }
+    ensures new_graph { result.new_graph.now ≡ ground.now.pair.new.now.graph }
+    ensures old { result.old ≡ visit.now.old }
+    ensures new { result.new ≡ visit.now.new }
+    ensures packed_old { result.packed.old.now ≡ packed.entry.old.now }
+    ensures packed_new { result.packed.new.now ≡ packed.entry.new.now }
+{
+    TypePair {
+        old_graph: ground.pair.old.graph(),
+        new_graph: ground.pair.new.graph(),
+        old: visit.old,
+        new: visit.new,
+        packed,
+    }
+}
+
 // The differences between the types of a visit, by the lists of which nodes are packed.
 fn differences_at(
     alloc: Global,
@@ -93,20 +127,31 @@ fn differences_at(
     requires new { visit.now.new < length ground.now.pair.new.now.graph }
     ensures { IfOk result (λ list. list ≡ differences_of (noted_pair ground.now) visit.now) }
 {
-    let dwarfs = DwarfPair {
-        old: ground.old_dwarf,
-        new: ground.new_dwarf,
-    };
-    let types = TypePair {
-        old_graph: ground.pair.old.graph(),
-        new_graph: ground.pair.new.graph(),
-        old: visit.old,
-        new: visit.new,
-        packed: *packed,
-    };
+    let dwarfs = dwarfs_of(ground);
+    let types = types_at(ground, *packed, visit);
     let mut list = List::new(alloc);
     push_differences(alloc, &mut list, &dwarfs, &types)?;
     Ok(list)
+}
+
+// The entry behind the old type of a visit.
+fn old_core_at(ground: &NotedPair, visit: &Visit) -> Option<EntryNumber>
+    requires { visit.now.old < length ground.now.pair.old.now.graph }
+    ensures found { result ≡ old_core (noted_pair ground.now) visit.now }
+    ensures inside { IfSome result (λ e. e < length ground.now.old_dwarf.now.tree.entries) }
+{
+    let entry = ground.pair.old.graph().entry_of(visit.old);
+    core_at(ground.old_dwarf, DebugInfoOffset::new(entry))
+}
+
+// The entry behind the new type of a visit.
+fn new_core_at(ground: &NotedPair, visit: &Visit) -> Option<EntryNumber>
+    requires { visit.now.new < length ground.now.pair.new.now.graph }
+    ensures found { result ≡ new_core (noted_pair ground.now) visit.now }
+    ensures inside { IfSome result (λ e. e < length ground.now.new_dwarf.now.tree.entries) }
+{
+    let entry = ground.pair.new.graph().entry_of(visit.new);
+    core_at(ground.new_dwarf, DebugInfoOffset::new(entry))
 }
 
 // The definitions of the types of a visit, if at least one of them is only declared.
@@ -122,14 +167,8 @@ fn definitions_of_types(
     ensures old { IfSome result (λ found. found.0 < length ground.now.old_dwarf.now.tree.entries) }
     ensures new { IfSome result (λ found. found.1 < length ground.now.new_dwarf.now.tree.entries) }
 {
-    let old = core_at(
-        ground.old_dwarf,
-        DebugInfoOffset::new(ground.pair.old.graph().entry_of(visit.old)),
-    );
-    let new = core_at(
-        ground.new_dwarf,
-        DebugInfoOffset::new(ground.pair.new.graph().entry_of(visit.new)),
-    );
+    let old = old_core_at(ground, visit);
+    let new = new_core_at(ground, visit);
     match (old, new) {
         (Some(old), Some(new)) => {
             let pair = EntryPair {
@@ -174,6 +213,16 @@ struct Walk<'w, 'x, 'o, 'n, 'd, 'e> {
     visits: &'w Visits,
 }
 
+// The difference between all definitions of a tag and a name in two libraries.
+fn change_of_kin(kin: &Kin, room: &mut NoteRoom) -> Result<Option<Difference>, NoMemory>
+    requires old { All (λ e. e < length kin.now.old_dwarf.now.tree.entries) kin.now.old.now }
+    requires new { All (λ e. e < length kin.now.new_dwarf.now.tree.entries) kin.now.new.now }
+    ensures { IfOk result (λ found. found ≡ elsewhere_spec.kin_change kin.now.old_dwarf.now kin.now.new_dwarf.now kin.now.old.now kin.now.new.now) }
+{
+    room.take_kin(kin)?;
+    kin_change(room.alloc, kin)
+}
+
 // The difference between all definitions of the tags and names of two definitions.
 fn change_of(
     walk: &Walk,
@@ -195,8 +244,7 @@ fn change_of(
         old: old.as_slice(),
         new: new.as_slice(),
     };
-    room.take_kin(&kin)?;
-    kin_change(room.alloc, &kin)
+    change_of_kin(&kin, room)
 }
 
 // Adds the difference between two definitions, unless the old one was compared before, and records it as compared.
@@ -223,7 +271,26 @@ fn push_definitions(
     push_found(list, change_of(walk, found, room)?)
 }
 
-// The differences at a visit: those of its types, and that of the definitions behind them, unless the old one was compared before.
+// Adds the difference between the definitions behind the types of a visit, unless the old one was compared before.
+fn push_defined(
+    list: &mut List<Difference>,
+    compared: &mut HashSet<usize>,
+    walk: &Walk,
+    visit: &Visit,
+    room: &mut NoteRoom,
+) -> Result<(), NoMemory>
+    requires definitions { AreOfBoth walk.now.ground.now.old_dwarf.now walk.now.ground.now.new_dwarf.now walk.now.definitions.now }
+    requires old { visit.now.old < length walk.now.ground.now.pair.old.now.graph }
+    requires new { visit.now.new < length walk.now.ground.now.pair.new.now.graph }
+    ensures list { OnOk result (list.new ≡ list.old ++ change_unless (contains nat_eq compared.old) (noted_pair walk.now.ground.now) (defined_behind (noted_pair walk.now.ground.now) visit.now)) }
+    ensures compared { OnOk result ((a : ℕ) → contains nat_eq compared.new a ≡ (contains nat_eq compared.old a || is_of a (defined_behind (noted_pair walk.now.ground.now) visit.now))) }
+{
+    let defined = definitions_of_types(walk.ground, walk.definitions, visit);
+    push_definitions(list, compared, walk, defined, room)
+}
+
+// The differences at a visit: those of its types, and that of the definitions behind them, unless the old one was compared before. The
+// room takes the types first.
 fn found_at(
     compared: &mut HashSet<usize>,
     walk: &Walk,
@@ -237,9 +304,9 @@ fn found_at(
     ensures found { IfOk result (λ found. found ≡ differences_of (noted_pair walk.now.ground.now) visit.now ++ change_unless (contains nat_eq compared.old) (noted_pair walk.now.ground.now) (defined_behind (noted_pair walk.now.ground.now) visit.now)) }
     ensures compared { OnOk result ((a : ℕ) → contains nat_eq compared.new a ≡ (contains nat_eq compared.old a || is_of a (defined_behind (noted_pair walk.now.ground.now) visit.now))) }
 {
+    room.take_visit(walk.ground, visit)?;
     let mut found = differences_at(room.alloc, walk.ground, &walk.packed, visit)?;
-    let defined = definitions_of_types(walk.ground, walk.definitions, visit);
-    push_definitions(&mut found, compared, walk, defined, room)?;
+    push_defined(&mut found, compared, walk, visit, room)?;
     Ok(found)
 }
 
@@ -264,7 +331,6 @@ fn push_visit(
     if is_marked(walk.ground, visit.old, visit.way) {
         return Ok(());
     }
-    room.take_visit(walk.ground, &visit)?;
     let found = found_at(compared, walk, &visit, room)?;
     if found.as_slice().is_empty() {
         return Ok(());
@@ -293,6 +359,28 @@ fn notes_along(walk: &Walk, room: &mut NoteRoom) -> Result<List<Note>, NoMemory>
     Ok(notes)
 }
 
+// The notes of all visits, in order, by the definitions and the packed nodes of both libraries.
+fn notes_by_packed<'w, 'x, 'o, 'n, 'd, 'e>(
+    ground: &'w NotedPair<'x, 'o, 'n, 'd, 'e>,
+    definitions: &'w DefinitionPair<'w, 'd, 'e>,
+    packed: Packed<'w>,
+    visits: &'w Visits,
+    room: &mut NoteRoom,
+) -> Result<List<Note>, NoMemory>
+    requires definitions { AreOfBoth ground.now.old_dwarf.now ground.now.new_dwarf.now definitions.now }
+    requires packed { ArePacked ground.now.pair.old.now.graph ground.now.pair.new.now.graph packed }
+    requires readable { AreReadable (sides_of ground.now.pair) visits.now }
+    ensures { IfOk result (λ notes. notes ≡ notes_below (noted_pair ground.now) visits.now (length visits.now)) }
+{
+    let walk = Walk {
+        ground,
+        definitions,
+        packed,
+        visits,
+    };
+    notes_along(&walk, room)
+}
+
 // The notes of all visits, in order, by the definitions of both libraries; it first collects the packed nodes.
 fn notes_with_packed<'w, 'x, 'o, 'n, 'd, 'e>(
     ground: &'w NotedPair<'x, 'o, 'n, 'd, 'e>,
@@ -310,17 +398,29 @@ fn notes_with_packed<'w, 'x, 'o, 'n, 'd, 'e>(
         old: old_packed.as_slice(),
         new: new_packed.as_slice(),
     };
-    let walk = Walk {
-        ground,
-        definitions,
-        packed,
-        visits,
-    };
-    notes_along(&walk, room)
+    notes_by_packed(ground, definitions, packed, visits, room)
 }
 
-// The notes of all visits, in order; it first collects the definitions and the packed nodes of both libraries.
+// The notes of all visits, in order, in a room; it first collects the definitions and the packed nodes of both libraries.
 fn notes_with_definitions(
+    ground: &NotedPair,
+    visits: &Visits,
+    room: &mut NoteRoom,
+) -> Result<List<Note>, NoMemory>
+    requires { AreReadable (sides_of ground.now.pair) visits.now }
+    ensures { IfOk result (λ notes. notes ≡ notes_below (noted_pair ground.now) visits.now (length visits.now)) }
+{
+    let old = definitions_of(ground.old_dwarf, room)?;
+    let new = definitions_of(ground.new_dwarf, room)?;
+    let definitions = DefinitionPair {
+        old: &old,
+        new: &new,
+    };
+    notes_with_packed(ground, &definitions, visits, room)
+}
+
+// The notes of all visits, in order.
+fn notes_of_visits(
     alloc: Global,
     ground: &NotedPair,
     visits: &Visits,
@@ -329,13 +429,7 @@ fn notes_with_definitions(
     ensures { IfOk result (λ notes. notes ≡ notes_below (noted_pair ground.now) visits.now (length visits.now)) }
 {
     let mut room = NoteRoom::beside(alloc, ground);
-    let old = definitions_of(ground.old_dwarf, &mut room)?;
-    let new = definitions_of(ground.new_dwarf, &mut room)?;
-    let definitions = DefinitionPair {
-        old: &old,
-        new: &new,
-    };
-    notes_with_packed(ground, &definitions, visits, &mut room)
+    notes_with_definitions(ground, visits, &mut room)
 }
 
 // The notes on two libraries, by classes in which each type stands for itself.
@@ -362,7 +456,7 @@ fn notes_of_classes<L: Ledger>(
     old_graph.known();
     new_graph.known();
     let explored = explore_types(alloc, &ground.pair, old_classes, new_classes, steps)?;
-    let notes = notes_with_definitions(alloc, ground, &explored.visits)?;
+    let notes = notes_of_visits(alloc, ground, &explored.visits)?;
     Ok(notes)
 }
 

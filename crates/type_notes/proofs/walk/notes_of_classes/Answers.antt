@@ -5,8 +5,8 @@ use Rattle.pair_compare.specs.BoundPair.{sides_of}
 use Rattle.type_notes.proofs.WalkLemmas.{readable}
 use Rattle.type_notes.proofs.walk.notes_of_classes.Goals as goal
 
-pub notes_with_definitions-requires : goal.notes_with_definitions-requires
-notes_with_definitions-requires g c =
+pub notes_of_visits-requires : goal.notes_of_visits-requires
+notes_of_visits-requires g c =
     readable (record {
       walks = c.paths_end_where_they_lead.ensures.walks;
       comes = c.paths_by_representatives.ensures.comes;
