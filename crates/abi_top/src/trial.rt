@@ -1,9 +1,10 @@
 // `trial`: two libraries that are generated and checked.
-ghost use Rattle.std.specs.Prelude.{◌≡◌, ◌≤◌, ◌<◌, List, [], ◌∷◌, map, All, IfOk, length};
+ghost use Rattle.std.specs.Prelude.{◌≡◌, ◌≤◌, ◌<◌, List, [], ◌∷◌, map, All, IfOk, length, IfErr};
+ghost use Rattle.abi_base.specs.declared.fault.NoMemory.TheVariants.{Allocation};
 ghost use Rattle.abi_base.specs.Limits.{input_limit};
 ghost use Rattle.trial_libraries.specs.Libraries.{library as made_library};
 ghost use Rattle.trial_libraries.specs.Limits.{most_functions};
-ghost use Rattle.abi_top.specs.Rows.Trial.{trial_inputs, trial_says};
+ghost use Rattle.abi_top.specs.Rows.Trial.{trial_inputs, trial_passes, trial_says};
 ghost use Rattle.commands.specs.Commands.{places_of, plain_place};
 ghost use Rattle.commands.specs.Reading.{AreOwnShort};
 ghost use Rattle.report.specs.declared.styles.report_option.ReportStyle.TheVariants.{Text};
@@ -34,7 +35,8 @@ pub struct Trial {
 fn make_one(alloc: Global, count: u32, side: Side) -> Result<Vec<u8>, NoMemory>
     requires some { 0 < count }
     requires few { count ≤ most_functions }
-    ensures { IfOk result (λ file. file.items ≡ made_library count side) }
+    ensures made { IfOk result (λ file. file.items ≡ made_library count side) }
+    ensures named { IfErr result (λ e. e ≡ Allocation) }
 {
     match make(alloc, count, side) {
         Ok(file) => Ok(file),
@@ -49,6 +51,7 @@ impl Trial {
         ensures places { IfOk result (λ places. map plain_place places.items
             ≡ places_of (trial_inputs self.now.count)) }
         ensures short { AreOwnShort (places_of (trial_inputs self.now.count)) }
+        ensures named { IfErr result (λ e. e ≡ Allocation) }
     {
         made_libraries_are_no_longer_than_inputs();
         let old = make_one(alloc, self.count, Side::Old)?;
@@ -61,6 +64,8 @@ impl Command for Trial {
     ghost inputs = { λ c. trial_inputs c.count };
 
     ghost says = { λ c voices. trial_says (wanted_voices Text voices) c.count };
+
+    ghost passes = { λ c. trial_passes };
 
     fn judge(
         self,
