@@ -1,6 +1,6 @@
 #!/usr/bin/env bash
 # Checks that each call and each clause that docs/PROOFS.md and the tables of tests/claims/ name is in the sources, and that each sentence
-# of those tables is in its page.
+# of those tables is in its page. Fails too if a sentence of README on what is proved, or of the manual on a command, is in no table.
 set -euo pipefail
 title="claims"
 tools="python3"

@@ -1,13 +1,15 @@
 """Whether each clause that a page names is there: tests/claims.sh says how it is called.
 
 The tables of docs/PROOFS.md name calls and clauses themselves. tests/claims/*.tsv names, for each sentence of other pages that says what is
-proved, the call and the clauses that say so. A sentence is named by its first words.
+proved, the call and the clauses that say so, or a dash where a sentence claims no proof. A sentence is named by some of its words. Each
+sentence of README's section on what is proved, and each on a command of the manual, must be named.
 """
 
 from __future__ import annotations
 
 import re
 import sys
+import tomllib
 from collections import defaultdict
 from dataclasses import dataclass, field
 from pathlib import Path
@@ -125,23 +127,55 @@ def plain(text: str) -> str:
     return re.sub(r"\s+", " ", re.sub(r"[*_`]|\]\([^)]*\)|\[", "", text))
 
 
+def claims_of(table: Path) -> list[tuple[str, str, str]]:
+    """The rows of a table of claims: a page, words of a sentence, and the call and clauses that say so, or a dash."""
+    lines = [line.split("\t") for line in table.read_text(encoding="utf-8").splitlines() if line and not line.startswith("#")]
+    return [(page, sentence, cell) for page, sentence, cell in lines]
+
+
 def faults_of_table(table: Path) -> tuple[int, list[str]]:
     """How many sentences a table of claims names, and its faults."""
-    lines = [line.split("\t") for line in table.read_text(encoding="utf-8").splitlines() if line and not line.startswith("#")]
+    lines = claims_of(table)
     faults = list[str]()
     for page, sentence, cell in lines:
         if plain(sentence) not in plain((ROOT / page).read_text(encoding="utf-8")):
             faults.append(f"{table.name}: {page} has no sentence `{sentence}`")
-        faults += [f"{table.name}, `{sentence}`: {fault}" for fault in faults_of_cell(cell)]
+        if cell != "-":
+            faults += [f"{table.name}, `{sentence}`: {fault}" for fault in faults_of_cell(cell)]
     return len(lines), faults
+
+
+def sentences_of(text: str) -> Iterator[str]:
+    """The sentences of a text in a page, without its heading and its tables."""
+    for block in re.split(r"\n\s*\n|\n(?=- )", text):
+        yield from (sentence for sentence in re.split(r"(?<=[.:]) (?=[A-Z`*])", plain(block).strip("- ")) if sentence)
+
+
+def promises() -> Iterator[tuple[str, str]]:
+    """Each page whose sentences must all be named, with each of its sentences."""
+    readme = (ROOT / "README.md").read_text(encoding="utf-8")
+    for sentence in sentences_of(readme.split("## What is proved\n")[1].split("\n## ")[0]):
+        yield "README.md", sentence
+    manual = ROOT / "tools" / "abi_manual" / "commands.toml"
+    for command in tomllib.loads(manual.read_text(encoding="utf-8"))["command"]:
+        for sentence in sentences_of(command["text"]):
+            yield str(manual.relative_to(ROOT)), sentence
+
+
+def unnamed(claims: list[tuple[str, str, str]]) -> list[str]:
+    """The sentences of these pages that no row names."""
+    return [f"no row names a sentence of {page}: `{sentence}`" for page, sentence in promises()
+            if not any(page == of and plain(words) in sentence for of, words, _ in claims)]
 
 
 def main() -> int:
     """Checks all tables."""
     count, faults = faults_of_proofs()
-    for table in sorted(Path(__file__).parent.glob("*.tsv")):
+    tables = sorted(Path(__file__).parent.glob("*.tsv"))
+    for table in tables:
         more, wrong = faults_of_table(table)
         count, faults = count + more, faults + wrong
+    faults += unnamed([claim for table in tables for claim in claims_of(table)])
     print(*faults, sep="\n", end="\n" if faults else "", file=sys.stderr)
     print(f"{count} claims name clauses that are there" if not faults else f"{len(faults)} faults")
     return 1 if faults else 0

@@ -1,5 +1,5 @@
 -- The answers of a call whose words ask for something are the replies of its command.
-use Rattle.std.proofs.Common.{◌≡◌, ℕ, List, subst}
+use Rattle.std.proofs.Common.{◌≡◌, ℕ, List, length, subst}
 use Rattle.abi_top.specs.Answer.{Answers, Asks, row_of}
 use Rattle.abi_top.specs.Calls.{Call}
 use Rattle.cli_args.specs.Commands.{PlainRequest}
@@ -7,7 +7,7 @@ use Rattle.cli_args.specs.ParsedArguments.{request, usage, help, arguments_by}
 use Rattle.abi_base.specs.declared.fault.Fault.{Fault}
 use Rattle.commands.specs.Commands.{asks_of, places_of}
 use Rattle.commands.specs.Faults.{FaultOfAll}
-use Rattle.commands.specs.OneReply.{TellsEach}
+use Rattle.commands.specs.OneReply.{AreShortAfter, TellsFirst}
 use Rattle.commands.specs.Replies.{Replies}
 use Rattle.commands.specs.declared.input.Input.{Input}
 use Rattle.commands.specs.Served.{AreServed, AreUnfailed, IsVerdict}
@@ -54,8 +54,9 @@ module _ (call : Call) (asked : PlainRequest) (is : arguments_by call.words ≡ 
       verdict_with (row_of call asked).says all outcome text P
       (served_verdict call.reading (row_of call asked).inputs (row_of call asked).says all outcome text (reply_of outcome text answer) served) holds
 
-  -- where all inputs tell their bytes and no reading failed, the first fault is the answer
-  pub fault_says : (all : List (List ℕ)) → TellsEach call.reading.told (places_of (row_of call asked).inputs) all → AreUnfailed call.reading (row_of call asked).inputs
+  -- where the first inputs tell their bytes, no reading failed and no later input is too long, the first fault is the answer
+  pub fault_says : (all : List (List ℕ)) → TellsFirst call.reading.told (places_of (row_of call asked).inputs) all
+      → AreShortAfter call.reading (length all) (places_of (row_of call asked).inputs) → AreUnfailed call.reading (row_of call asked).inputs
       → (which : Input) (fault : Fault) → FaultOfAll (asks_of (row_of call asked).inputs) all which fault → (outcome : Outcome) (text : List ℕ) → Answers call outcome text → outcome ≡ Unreadable which fault
-  fault_says all tells unfailed which fault first outcome text answer =
-      fault_answers call.reading (row_of call asked).inputs (row_of call asked).says all outcome text (reply_of outcome text answer) tells unfailed which fault first
+  fault_says all tells after unfailed which fault first outcome text answer =
+      fault_answers call.reading (row_of call asked).inputs (row_of call asked).says all outcome text (reply_of outcome text answer) which fault tells unfailed after first

@@ -42,8 +42,8 @@ use Rattle.commands.specs.declared.outcome.Outcome.TheVariants.{Judged}
 use Rattle.commands.specs.declared.verdict.Verdict.{Verdict}
 use Rattle.commands.specs.declared.verdict.Verdict.TheVariants as verdict
 use Rattle.library_read.specs.Faults.{library_fault}
-use Rattle.library_check.specs.Applications.{AgreedFor, IsAppReportText, IsCompatibleFor, uses_for}
-use Rattle.library_check.specs.Checks.{Agreed, Compatible, IsCertificateText, IsReportText}
+use Rattle.library_check.specs.Applications.{AgreedFor, IsAppReportText, IsCompatibleFor, KeepsLeavesFor, uses_for}
+use Rattle.library_check.specs.Checks.{Agreed, Compatible, IsCertificateText, IsReportText, KeepsLeaves}
 use Rattle.library_check.specs.Compositions.{IsComposedText}
 use Rattle.library_check.specs.Migrations.{IsMigratedText, IsRefusedMigration}
 use Rattle.library_check.specs.Relations.{IsRelationText}
@@ -255,6 +255,40 @@ module _ (decide : AccessesDecide) (decide_for : AccessesDecideFor) (call : Call
       of (inr (rules_name, report, app_name, old_name, new_name, program, old, new, rules, reads, says)) =
           inr (rules_name, report, app_name, old_name, new_name, program, old, new, rules, reads, λ agreed. says.0 ((decide_for program old new rules reads.given.2.1 reads.given.2.2.1 reads.readable.1.0 reads.readable.1.1.0).1 agreed))
 
+-- ---- what a yes says of leaves
+
+-- the laws by which the leaves stay
+abbrev pub LeavesStayOnYes : Type 0
+LeavesStayOnYes =
+    (old new rules : List ℕ) → length old ≤ input_limit → length new ≤ input_limit → library_fault old ≡ None → library_fault new ≡ None → Compatible old new rules → KeepsLeaves old new rules
+
+abbrev pub LeavesStayForApp : Type 0
+LeavesStayForApp =
+    (app old new rules : List ℕ) → length old ≤ input_limit → length new ≤ input_limit → library_fault old ≡ None → library_fault new ≡ None → IsCompatibleFor app old new rules → KeepsLeavesFor app old new rules
+
+module _ (stay : LeavesStayOnYes) (stay_for : LeavesStayForApp) (call : Call) (untyped : Option Remark) (text : List ℕ) where
+  abbrev AnyText : List ℕ → Type 0
+  AnyText t = Unit {0}
+
+  abbrev pub StayOnYes : Type 0
+  StayOnYes =
+      OnCheck call (λ report old new rules. KeepsLeaves old new rules)
+      ⊎ (OnVerify call (λ old new rules certificate. KeepsLeaves old new rules)
+      ⊎ (OnCompose call (λ files. KeepsLeaves files.first files.last []) ⊎ OnApp call (λ report program old new rules. KeepsLeavesFor program old new rules)))
+
+  pub yes_leaves : Answers call (Judged verdict.Yes untyped) text → StayOnYes
+  yes_leaves answer = of (yes_says call untyped text AnyText tt answer)
+    where
+      of : OnYes call untyped text AnyText tt → StayOnYes
+      of (inl (rules_name, report, old_name, new_name, old, new, rules, reads, says)) =
+          inl (rules_name, report, old_name, new_name, old, new, rules, reads, stay old new rules reads.given.1 reads.given.2.1 reads.readable.0 reads.readable.1.0 says.0)
+      of (inr (inl (rules_name, old_name, new_name, certificate_name, old, new, rules, certificate, reads, says))) =
+          inr (inl (rules_name, old_name, new_name, certificate_name, old, new, rules, certificate, reads, stay old new rules reads.given.1 reads.given.2.1 reads.readable.0 reads.readable.1.0 says.1))
+      of (inr (inr (inl (first_name, middle_name, last_name, certificate1_name, certificate2_name, files, reads, says)))) =
+          inr (inr (inl (first_name, middle_name, last_name, certificate1_name, certificate2_name, files, reads, stay files.first files.last [] reads.given.1 reads.given.2.2.1 reads.readable.0 reads.readable.1.1.0 says.0)))
+      of (inr (inr (inr (rules_name, report, app_name, old_name, new_name, program, old, new, rules, reads, says)))) =
+          inr (inr (inr (rules_name, report, app_name, old_name, new_name, program, old, new, rules, reads, stay_for program old new rules reads.given.2.1 reads.given.2.2.1 reads.readable.1.0 reads.readable.1.1.0 says.0)))
+
 -- ---- each command says one thing
 
 -- the laws by which it does
@@ -283,7 +317,7 @@ module _ (have : HaveOneText) where
   one_of voices (verify rules_name old_name new_name certificate_name) decided counted = verify_says_one have.verification rules_name old_name new_name certificate_name
   one_of voices (entries name) decided counted = entries_says_one name
   one_of voices (exports name) decided counted = exports_says_one name
-  one_of voices (trial count) decided counted = trial_says_one have.tried voices count counted
+  one_of voices (trial count) decided counted = trial_says_one have.tried count counted
   one_of voices (migrate rules_name old_name new_name certificate_name) decided counted = migrate_says_one have.migration rules_name old_name new_name certificate_name
   one_of voices (compose first_name middle_name last_name certificate1_name certificate2_name) decided counted =
       compose_says_one have.composition first_name middle_name last_name certificate1_name certificate2_name

@@ -20,7 +20,6 @@ use Rattle.abi_top.specs.Rows.Verify.{verify_inputs, verify_passes, verify_says}
 use Rattle.cli_args.specs.Commands.{PlainRequest, check, verify, entries, exports, trial, migrate, compose, layout, app}
 use Rattle.commands.specs.Commands.{Command}
 use Rattle.report.specs.Listening.{Voice}
-use Rattle.report.specs.declared.styles.report_option.ReportStyle.TheVariants.{Text}
 use Rattle.report.specs.styles.Wanted.{wanted_voices}
 
 -- The row of a request, if the caller passes listeners with these voices. Those of the requested style hear the breaks.
@@ -29,7 +28,7 @@ command_of voices (check rules report old new) = record { inputs = check_inputs 
 command_of voices (verify rules old new certificate) = record { inputs = verify_inputs rules old new certificate; says = verify_says; passes = verify_passes }
 command_of voices (entries library) = record { inputs = entries_inputs library; says = entries_says; passes = entries_passes }
 command_of voices (exports library) = record { inputs = exports_inputs library; says = exports_says; passes = exports_passes }
-command_of voices (trial count) = record { inputs = trial_inputs count; says = trial_says (wanted_voices Text voices) count; passes = trial_passes }
+command_of voices (trial count) = record { inputs = trial_inputs count; says = trial_says count; passes = trial_passes }
 command_of voices (migrate rules old new certificate) = record { inputs = migrate_inputs rules old new certificate; says = migrate_says; passes = migrate_passes }
 command_of voices (compose first middle last certificate1 certificate2) = record { inputs = compose_inputs first middle last certificate1 certificate2; says = compose_says; passes = compose_passes }
 command_of voices (layout library tag) = record { inputs = layout_inputs library; says = layout_says tag; passes = layout_passes }

@@ -1,5 +1,5 @@
 // The top call.
-ghost use Rattle.std.specs.Prelude.{◌≡◌, ◌≢◌, ◌⊎◌, ◌≤◌, List, [], ℕ, Option, Some, map, All, IfErr, IfOk};
+ghost use Rattle.std.specs.Prelude.{◌≡◌, ◌≢◌, ◌⊎◌, ◌≤◌, List, [], ℕ, Option, Some, map, All, IfErr, IfOk, length};
 ghost use Rattle.std.specs.Io.KnownBytes.{Appends};
 ghost use Rattle.abi_base.specs.Causes.{AppendsFront, Rose, SameCounts, Unfailing};
 ghost use Rattle.abi_base.specs.Outcome.{OnLimit};
@@ -10,13 +10,13 @@ ghost use Rattle.abi_base.specs.declared.remark.Remark.{Remark as AnyRemark};
 ghost use Rattle.abi_top.specs.Answer.{Answers, Asks, AsksForTold, HasRoom, IsModest, PassesLimit, row_of};
 ghost use Rattle.abi_top.specs.Calls.{Call, call_of};
 ghost use Rattle.abi_top.specs.Rows.{command_of};
-ghost use Rattle.abi_top.specs.Verdicts.{Agrees, Disagrees, MeansDone, MeansNo, MeansRefused, MeansYes};
+ghost use Rattle.abi_top.specs.Verdicts.{Agrees, Disagrees, LeavesStayOf, MeansDone, MeansNo, MeansRefused, MeansYes};
 ghost use Rattle.cli_args.specs.Commands.{PlainRequest, check, plain_request, trial, usage_text};
 ghost use Rattle.cli_args.specs.ParsedArguments.{arguments_by, request as requested, help, usage};
 ghost use Rattle.cli_args.specs.Words.{texts};
 ghost use Rattle.commands.specs.Commands.{asks_of, files_of, places_of, plain_file, plain_place};
 ghost use Rattle.commands.specs.Faults.{FaultOfAll};
-ghost use Rattle.commands.specs.OneReply.{TellsEach};
+ghost use Rattle.commands.specs.OneReply.{AreShortAfter, TellsEach, TellsFirst};
 ghost use Rattle.commands.specs.Outcomes.{IsNoMemory};
 ghost use Rattle.commands.specs.Reading.{AreOwnShort, AreTold, FailsToRead, reading_of};
 ghost use Rattle.commands.specs.Replies.{IsFaulty, OnBytes, Replies};
@@ -106,6 +106,12 @@ pub fn run<'a, I: Inputs, S: Sink>(
         (map voice listeners.items) words.entry.now inputs.old inputs.new in
         (untyped : Option AnyRemark) → result.outcome ≡ Outcome.Judged Verdict.No untyped → Disagrees call }
 
+    // On yes, each scalar, pointer, enumeration or vector in an object on which such an access lands also stays at its offset, with
+    // its kind, size, width and group, unless it lies under a type that the rule file suppresses or that is only declared.
+    ensures yes_leaves { let call : Call = call_of I.told I.faults I.given I.started
+        (map voice listeners.items) words.entry.now inputs.old inputs.new in
+        (untyped : Option AnyRemark) → result.outcome ≡ Outcome.Judged Verdict.Yes untyped → LeavesStayOf call }
+
     // A library may replace itself, whatever a rule file suppresses: if the known bytes of both names are the same, the answer is
     // not no.
     ensures itself { (rules : Option (List ℕ)) (report : AnyStyle) (old_name new_name bytes : List ℕ) (untyped : Option AnyRemark)
@@ -139,13 +145,15 @@ pub fn run<'a, I: Inputs, S: Sink>(
         → IsVerdict (row_of call asked).says all result.outcome
         (λ text. Appends (S.held sink.old) (S.held sink.new) text) }
 
-    // If the arguments make a request, the bytes of all its inputs are known, and neither reading nor the sink failed, then the
-    // first fault of the inputs is the outcome; or memory ran out.
+    // If the arguments make a request, the bytes of its first inputs are known and one of these has a fault, no later input gave too
+    // many bytes, and neither reading nor the sink failed, then that first fault is the outcome; or memory ran out. If the bytes of all
+    // inputs are known, none is later.
     ensures first_fault { let call : Call = call_of I.told I.faults I.given I.started
         (map voice listeners.items) words.entry.now inputs.old inputs.new in
         (asked : PlainRequest) (all : List (List ℕ)) (which : AnyInput) (fault : AnyFault)
         → arguments_by (texts words.entry.now) ≡ requested asked
-        → TellsEach call.reading.told (places_of (row_of call asked).inputs) all
+        → TellsFirst call.reading.told (places_of (row_of call asked).inputs) all
+        → AreShortAfter call.reading (length all) (places_of (row_of call asked).inputs)
         → AreUnfailed call.reading (row_of call asked).inputs
         → FaultOfAll (asks_of (row_of call asked).inputs) all which fault
         → (Rose (S.faults sink.old) (S.faults sink.new) → ⊥) → (IsNoMemory result.outcome → ⊥)

@@ -1,28 +1,24 @@
 // `trial`: two libraries that are generated and checked.
-ghost use Rattle.std.specs.Prelude.{◌≡◌, ◌≤◌, ◌<◌, List, [], ◌∷◌, map, All, IfOk, length, IfErr};
+ghost use Rattle.std.specs.Prelude.{◌≡◌, ◌≤◌, ◌<◌, map, IfErr, IfOk};
 ghost use Rattle.abi_base.specs.declared.fault.NoMemory.TheVariants.{Allocation};
-ghost use Rattle.abi_base.specs.Limits.{input_limit};
 ghost use Rattle.trial_libraries.specs.Libraries.{library as made_library};
 ghost use Rattle.trial_libraries.specs.Limits.{most_functions};
 ghost use Rattle.abi_top.specs.Rows.Trial.{trial_inputs, trial_passes, trial_says};
 ghost use Rattle.commands.specs.Commands.{places_of, plain_place};
 ghost use Rattle.commands.specs.Reading.{AreOwnShort};
-ghost use Rattle.report.specs.declared.styles.report_option.ReportStyle.TheVariants.{Text};
-ghost use Rattle.report.specs.styles.Wanted.{wanted_voices};
 
 use abi_base::NoMemory;
-use commands::{Command, Input, Judgement, Place, Stop, Verdict};
+use commands::{Command, Input, Judgement, Place, Stop, Verdict, two};
 use library_check::Unchecked;
 use library_check::laws::no_rules_are_readable;
-use library_check::trial::try_both;
+use library_check::trial::try_libraries;
 use report::Listener;
-use report::styles::{ReportStyle, wanted_listeners};
 use std::alloc::Global;
 use trial_libraries::laws::made_libraries_are_no_longer_than_inputs;
 use trial_libraries::{GenRefusal, Side, make};
 
-/// `trial` with a number of functions: two libraries with that many are generated and checked, with an empty rule file and these
-/// listeners. A fault in one of them would be reported as if it had been read from a file.
+/// `trial` with a number of functions: two libraries with that many are generated and checked, with an empty rule file and a
+/// listener of its own. A fault in one of them would be reported as if it had been read from a file.
 #[derive(Clone, Copy)]
 pub struct Trial {
     /// The number of functions.
@@ -63,19 +59,19 @@ impl Trial {
 impl Command for Trial {
     ghost inputs = { λ c. trial_inputs c.count };
 
-    ghost says = { λ c voices. trial_says (wanted_voices Text voices) c.count };
+    ghost says = { λ c voices. trial_says c.count };
 
     ghost passes = { λ c. trial_passes };
 
     fn judge(
         self,
         alloc: Global,
-        _all: &[Vec<u8>],
-        listeners: Vec<Box<dyn Listener>>,
+        all: &[Vec<u8>],
+        _listeners: Vec<Box<dyn Listener>>,
     ) -> Result<Judgement, Stop> {
         no_rules_are_readable();
-        let told = wanted_listeners(alloc, listeners, ReportStyle::Text)?;
-        match try_both(alloc, self.count, told) {
+        let (old, new) = two(all);
+        match try_libraries(alloc, self.count, old, new) {
             Ok(text) => Ok(Judgement {
                 verdict: Verdict::Done,
                 untyped: None,

@@ -8,10 +8,11 @@ use Rattle.abi_types.specs.Shown.{label}
 use Rattle.elf_needs.specs.Needs.{PlainNeed}
 use Rattle.app_check.specs.Imports.{PlainImport, app_fault, imports_of}
 use Rattle.app_check.specs.Used.{narrowed_marks, used_exports}
+use Rattle.accesses.specs.LeafPlaces.{LeavesStay}
 use Rattle.report.specs.Listening.{Voice}
 use Rattle.report.specs.Render.{newline}
 use Rattle.cert_check.specs.Agreed.{IsAgreed}
-use Rattle.cert_check.specs.Compatible.{Sides, sides, IsCompatible}
+use Rattle.cert_check.specs.Compatible.{Sides, sides, IsCompatible, task_of}
 use Rattle.library_read.specs.Faults.{library_fault}
 use Rattle.library_read.specs.Libraries.{library_of}
 use Rattle.suppression_text.specs.Faults.{rule_fault}
@@ -66,6 +67,10 @@ IsCompatibleFor app old new rules = IsCompatible (sides_for app old new rules)
 -- What that means for a program that was compiled against the old library and uses only these exports.
 abbrev pub AgreedFor : List ℕ → List ℕ → List ℕ → List ℕ → Type 0
 AgreedFor app old new rules = IsAgreed (sides_for app old new rules)
+
+-- Each leaf on which an open access from the types of these exports lands stays at its offset, as `KeepsLeaves` says.
+abbrev pub KeepsLeavesFor : List ℕ → List ℕ → List ℕ → List ℕ → Type 0
+KeepsLeavesFor app old new rules = LeavesStay (task_of (sides_for app old new rules))
 
 -- the text of a yes
 abbrev pub uses_for : List ℕ → List ℕ → List ℕ → List ℕ → List ℕ

@@ -1,9 +1,10 @@
 -- What `check` promises: when a new library may replace an old one, given their bytes and those of a rule file, and the text that
 -- shows it.
 use Rattle.std.specs.Prelude.{◌≡◌, ℕ, List, Some, None}
+use Rattle.accesses.specs.LeafPlaces.{LeavesStay}
 use Rattle.report.specs.Listening.{Voice}
 use Rattle.cert_check.specs.Agreed.{IsAgreed}
-use Rattle.cert_check.specs.Compatible.{Sides, IsCompatible}
+use Rattle.cert_check.specs.Compatible.{Sides, IsCompatible, task_of}
 use Rattle.library_read.specs.Faults.{library_fault}
 use Rattle.library_read.specs.Libraries.{library_of}
 use Rattle.suppression_text.specs.Faults.{rule_fault}
@@ -27,6 +28,11 @@ Compatible old new rules = IsCompatible (sides_of old new rules)
 -- the rules of exports, and whatever the program may reach from the types of these exports, it finds the same.
 abbrev pub Agreed : List ℕ → List ℕ → List ℕ → Type 0
 Agreed old new rules = IsAgreed (sides_of old new rules)
+
+-- Each leaf on which an open access from the types of these exports lands stays at its offset, unless it lies under a place that is
+-- marked at its way, or under one that is declared only in the new library.
+abbrev pub KeepsLeaves : List ℕ → List ℕ → List ℕ → Type 0
+KeepsLeaves old new rules = LeavesStay (task_of (sides_of old new rules))
 
 -- the text of a yes
 abbrev pub IsCertificateText : List ℕ → List ℕ → List ℕ → List ℕ → Type 0

@@ -23,7 +23,7 @@ ghost use Rattle.library_check.specs.declared.verifying.Unverified.{Unverified};
 ghost use Rattle.library_check.specs.declared.verifying.Verified.{Verified};
 ghost use Rattle.library_check.specs.declared.verifying.Verified.TheVariants.{Accepted};
 ghost use Rattle.library_check.specs.declared.applying.AppJudged.{AppJudged};
-ghost use Rattle.library_check.specs.Applications.{AgreedFor, ImportTheSame, IsAppJudged, IsAppReportText, IsCompatibleFor, IsYes, SameApp, sides_for};
+ghost use Rattle.library_check.specs.Applications.{AgreedFor, ImportTheSame, IsAppJudged, IsAppReportText, IsCompatibleFor, IsYes, KeepsLeavesFor, SameApp, sides_for};
 ghost use Rattle.library_check.specs.Checks.{Agreed, AreReadable, Compatible, IsCertificateText, IsReportText, sides_of};
 ghost use Rattle.library_check.specs.Compositions.{IsComposedText, IsComposition, PlainFiles, SameComposed};
 ghost use Rattle.library_check.specs.Migrations.{IsMigrated, IsMigratedText, IsRefusedMigration, SameMigrated};
@@ -183,9 +183,8 @@ pub fn what_is_composed_is_accepted()
 }
 
 /// A new library may replace an old one exactly if a program compiled against the old one finds the same in the new one; and it may
-/// for one application exactly if the application finds the same. If it may for all programs, each leaf on which an open access
-/// lands stays at its offset, unless it lies under a place that is marked at its way, or under one that is declared only in the new
-/// library.
+/// for one application exactly if the application finds the same. If it may, each leaf on which an open access lands stays at its
+/// offset, unless it lies under a place that is marked at its way, or under one that is declared only in the new library.
 pub fn compatible_is_that_accesses_agree()
     ensures exact { (old new rules : List ℕ) → length old ≤ input_limit → length new ≤ input_limit → library_fault old ≡ None → library_fault new ≡ None
         → Compatible old new rules ↔ Agreed old new rules }
@@ -193,6 +192,8 @@ pub fn compatible_is_that_accesses_agree()
         → IsCompatibleFor app old new rules ↔ AgreedFor app old new rules }
     ensures leaves { (old new rules : List ℕ) → length old ≤ input_limit → length new ≤ input_limit → library_fault old ≡ None → library_fault new ≡ None
         → Compatible old new rules → LeavesStay (task_of (sides_of old new rules)) }
+    ensures app_leaves { (app old new rules : List ℕ) → length old ≤ input_limit → length new ≤ input_limit → library_fault old ≡ None → library_fault new ≡ None
+        → IsCompatibleFor app old new rules → KeepsLeavesFor app old new rules }
 {
     cert_check::laws::compatible_is_that_accesses_agree();
     nodes_stand_for_what_exports_reach();

@@ -8,20 +8,17 @@ use Rattle.cli_args.specs.ParsedArguments.{request, arguments_by}
 use Rattle.commands.specs.OneReply.{SaysOne}
 use Rattle.commands.specs.declared.verdict.Verdict.{Verdict}
 use Rattle.library_check.specs.trial.Trials.{IsTrialText}
-use Rattle.report.specs.Listening.{Voice}
-use Rattle.report.specs.declared.styles.report_option.ReportStyle.TheVariants.{Text}
-use Rattle.report.specs.styles.Wanted.{wanted_voices}
 use Rattle.trial_libraries.specs.Limits.{most_functions}
 
 module _ (call : Call) (v : Verdict) (untyped : Option Remark) (text : List ℕ) where
   abbrev pub OfTrial : Type 0
-  OfTrial = (count : ℕ) × (arguments_by call.words ≡ request (trial count)) × IsTried (wanted_voices Text call.voices) count v untyped text
+  OfTrial = (count : ℕ) × (arguments_by call.words ≡ request (trial count)) × IsTried count v untyped text
 
 -- the law by which it has one text
 abbrev pub HasOneTrial : Type 0
 HasOneTrial =
-    (voices : List Voice) (count : ℕ) (text other : List ℕ) → count ≤ most_functions → IsTrialText (wanted_voices Text voices) count text → IsTrialText (wanted_voices Text voices) count other → text ≡ other
+    (count : ℕ) (text other : List ℕ) → count ≤ most_functions → IsTrialText count text → IsTrialText count other → text ≡ other
 
-pub trial_says_one : HasOneTrial → (voices : List Voice) (count : ℕ) → count ≤ most_functions → SaysOne (trial_inputs count) (trial_says (wanted_voices Text voices) count)
-trial_says_one one_text voices count counted all short readable v w u x text other one two =
-    (one.done ∙ sym two.done, one.none ∙ sym two.none, one_text voices count text other counted one.lines two.lines)
+pub trial_says_one : HasOneTrial → (count : ℕ) → count ≤ most_functions → SaysOne (trial_inputs count) (trial_says count)
+trial_says_one one_text count counted all short readable v w u x text other one two =
+    (one.done ∙ sym two.done, one.none ∙ sym two.none, one_text count text other counted one.lines two.lines)

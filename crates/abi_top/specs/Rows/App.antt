@@ -11,7 +11,7 @@ use Rattle.commands.specs.Commands.{Wanted, named}
 use Rattle.commands.specs.declared.input.Input.TheVariants.{Old, New, App}
 use Rattle.commands.specs.declared.verdict.Verdict.{Verdict}
 use Rattle.commands.specs.declared.verdict.Verdict.TheVariants.{Yes, No, Refused, Done}
-use Rattle.library_check.specs.Applications.{AgreedFor, IsAppReportText, IsCompatibleFor, uses_for}
+use Rattle.library_check.specs.Applications.{AgreedFor, IsAppReportText, IsCompatibleFor, KeepsLeavesFor, uses_for}
 use Rattle.library_check.specs.Remarks.{remark_on}
 use Rattle.report.specs.Listening.{Voice}
 use Rattle.report.specs.declared.styles.report_option.ReportStyle.{ReportStyle}
@@ -62,3 +62,7 @@ AppAgrees call = OnApp call (λ report program old new rules. AgreedFor program 
 
 abbrev pub AppDisagrees : Call → Type 0
 AppDisagrees call = OnApp call (λ report program old new rules. AgreedFor program old new rules → ⊥)
+
+-- the leaves on which these accesses land stay at their offsets
+abbrev pub AppKeepsLeaves : Call → Type 0
+AppKeepsLeaves call = OnApp call (λ report program old new rules. KeepsLeavesFor program old new rules)

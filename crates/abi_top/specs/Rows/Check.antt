@@ -10,7 +10,7 @@ use Rattle.commands.specs.Commands.{Wanted, named}
 use Rattle.commands.specs.declared.input.Input.TheVariants.{Old, New}
 use Rattle.commands.specs.declared.verdict.Verdict.{Verdict}
 use Rattle.commands.specs.declared.verdict.Verdict.TheVariants.{Yes, No, Refused, Done}
-use Rattle.library_check.specs.Checks.{Agreed, Compatible, IsCertificateText, IsReportText}
+use Rattle.library_check.specs.Checks.{Agreed, Compatible, IsCertificateText, IsReportText, KeepsLeaves}
 use Rattle.library_check.specs.Relations.{IsRelationText}
 use Rattle.library_check.specs.Remarks.{remark_on}
 use Rattle.report.specs.Listening.{Voice}
@@ -60,3 +60,7 @@ CheckAgrees call = OnCheck call (λ report old new rules. Agreed old new rules)
 
 abbrev pub CheckDisagrees : Call → Type 0
 CheckDisagrees call = OnCheck call (λ report old new rules. Agreed old new rules → ⊥)
+
+-- the leaves on which these accesses land stay at their offsets
+abbrev pub CheckKeepsLeaves : Call → Type 0
+CheckKeepsLeaves call = OnCheck call (λ report old new rules. KeepsLeaves old new rules)

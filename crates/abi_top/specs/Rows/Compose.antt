@@ -12,7 +12,7 @@ use Rattle.commands.specs.Commands.{Wanted, named}
 use Rattle.commands.specs.declared.input.Input.TheVariants as input
 use Rattle.commands.specs.declared.verdict.Verdict.{Verdict}
 use Rattle.commands.specs.declared.verdict.Verdict.TheVariants.{Yes, Refused}
-use Rattle.library_check.specs.Checks.{Agreed, Compatible}
+use Rattle.library_check.specs.Checks.{Agreed, Compatible, KeepsLeaves}
 use Rattle.library_check.specs.Compositions.{PlainFiles, IsComposedText, IsComposition}
 use Rattle.library_check.specs.declared.composing.Composed.{Composed}
 use Rattle.library_check.specs.declared.composing.Composed.TheVariants as composed
@@ -72,3 +72,7 @@ ComposeRefused call P = OnCompose call (λ files. ComposesNone files P)
 -- the first and the last library agree on all accesses from the compared exports
 abbrev pub ComposeAgrees : Call → Type 0
 ComposeAgrees call = OnCompose call (λ files. Agreed files.first files.last [])
+
+-- the leaves on which these accesses land stay at their offsets
+abbrev pub ComposeKeepsLeaves : Call → Type 0
+ComposeKeepsLeaves call = OnCompose call (λ files. KeepsLeaves files.first files.last [])

@@ -11,9 +11,6 @@ use Rattle.commands.specs.declared.input.Input.TheVariants.{Old, New}
 use Rattle.commands.specs.declared.verdict.Verdict.{Verdict}
 use Rattle.commands.specs.declared.verdict.Verdict.TheVariants.{Done}
 use Rattle.library_check.specs.trial.Trials.{IsTrialText}
-use Rattle.report.specs.Listening.{Voice}
-use Rattle.report.specs.declared.styles.report_option.ReportStyle.TheVariants.{Text}
-use Rattle.report.specs.styles.Wanted.{wanted_voices}
 use Rattle.trial_libraries.specs.Libraries.{library as made_library}
 use Rattle.trial_libraries.specs.declared.making.Side.TheVariants as side
 
@@ -22,18 +19,17 @@ abbrev pub trial_inputs : ℕ → List Wanted
 trial_inputs count = library_at Old (own (made_library count side.Old)) ∷ library_at New (own (made_library count side.New)) ∷ []
 
 -- the lines of a trial with this number of functions
-pub record IsTried (voices : List Voice) (count : ℕ) (v : Verdict) (untyped : Option Remark) (text : List ℕ) : Type 0 where
+pub record IsTried (count : ℕ) (v : Verdict) (untyped : Option Remark) (text : List ℕ) : Type 0 where
   pub done : v ≡ Done
   pub none : untyped ≡ None
-  pub lines : IsTrialText voices count text
+  pub lines : IsTrialText count text
 
 abbrev pub trial_passes : List (List ℕ) → Limit → Type 0
 trial_passes = any_limit
 
-abbrev pub trial_says : List Voice → ℕ → List (List ℕ) → Verdict → Option Remark → List ℕ → Type 0
-trial_says voices count all v untyped text = IsTried voices count v untyped text
+abbrev pub trial_says : ℕ → List (List ℕ) → Verdict → Option Remark → List ℕ → Type 0
+trial_says count all v untyped text = IsTried count v untyped text
 
--- the command is `trial` with a number, and P holds for the lines of a trial of this many functions, with those listeners that make a
--- line of each break
+-- the command is `trial` with a number, and P holds for the lines of a trial of this many functions
 abbrev pub OnTrial : Call → (List ℕ → Type 0) → Type 0
-OnTrial call P = (count : ℕ) × (text : List ℕ) × (arguments_by call.words ≡ request (trial count)) × IsTrialText (wanted_voices Text call.voices) count text × P text
+OnTrial call P = (count : ℕ) × (text : List ℕ) × (arguments_by call.words ≡ request (trial count)) × IsTrialText count text × P text

@@ -12,7 +12,7 @@ use Rattle.commands.specs.Commands.{Wanted, named}
 use Rattle.commands.specs.declared.input.Input.TheVariants.{Old, New, Certificate}
 use Rattle.commands.specs.declared.verdict.Verdict.{Verdict}
 use Rattle.commands.specs.declared.verdict.Verdict.TheVariants.{Yes, No, Refused, Done}
-use Rattle.library_check.specs.Checks.{Agreed, Compatible}
+use Rattle.library_check.specs.Checks.{Agreed, Compatible, KeepsLeaves}
 use Rattle.library_check.specs.Relations.{IsRelationText}
 use Rattle.library_check.specs.Verifications.{IsAcceptedText, IsRefusedText}
 
@@ -55,3 +55,7 @@ VerifyRefused call P = OnVerify call (λ old new rules certificate.
 -- the libraries agree on all accesses from the compared exports
 abbrev pub VerifyAgrees : Call → Type 0
 VerifyAgrees call = OnVerify call (λ old new rules certificate. Agreed old new rules)
+
+-- the leaves on which these accesses land stay at their offsets
+abbrev pub VerifyKeepsLeaves : Call → Type 0
+VerifyKeepsLeaves call = OnVerify call (λ old new rules certificate. KeepsLeaves old new rules)

@@ -1,11 +1,13 @@
 -- Over inputs that tell their bytes there is one answer: the first thing that stops decides, and then the verdict.
-use Rattle.std.proofs.Common.{◌≡◌, ℕ, zero, suc, List, [], ◌∷◌, Option, Some, None, refl, sym, ◌∙◌, ap, subst, inl, inr}
+use Rattle.std.proofs.Common.{◌≡◌, ◌≤◌, ◌<◌, ◌⊎◌, ℕ, zero, suc, List, [], ◌∷◌, length, Option, Some, None, IfSome, refl, sym, ◌∙◌, ap, subst, inl, inr, arith}
+use Rattle.std.proofs.lemmas.Bool.{cases_lt}
 use Rattle.abi_base.specs.Causes.{Rose}
+use Rattle.abi_base.specs.Limits.{input_limit}
 use Rattle.abi_base.specs.declared.fault.Fault.{Fault}
 use Rattle.abi_base.specs.declared.remark.Remark.{Remark}
 use Rattle.commands.specs.Commands.{asks_of, Wanted, places_of}
 use Rattle.commands.specs.Faults.{AreReadable, AreShort, FaultOfAll, FirstFault, too_long}
-use Rattle.commands.specs.OneReply.{SaysOne, TellsEach}
+use Rattle.commands.specs.OneReply.{AreShortAfter, SaysOne, TellsEach, TellsFirst}
 use Rattle.commands.specs.Reading.{Gives, Reaches, Reading}
 use Rattle.commands.specs.Replies.{IsFaulty, Replies}
 use Rattle.commands.specs.Served.{AreServed, AreUnfailed, IsUnfailed, IsVerdict}
@@ -15,7 +17,7 @@ use Rattle.commands.specs.declared.outcome.Outcome.{Outcome}
 use Rattle.commands.specs.declared.outcome.Outcome.TheVariants.{Judged, Unreadable, ReadFault, Help, Usage, NoMemory, WriteFault}
 use Rattle.commands.specs.declared.verdict.Verdict.{Verdict}
 use Rattle.commands.proofs.InOrder.{gives_short}
-use Rattle.commands.proofs.lemmas.Told.{first_fault, first_long, gives_told, is_first, is_first_long, none_faulty, none_long, reaches_long}
+use Rattle.commands.proofs.lemmas.Told.{each_first, first_fault, first_given, first_long, first_short, gives_told, inside_all, is_first, is_first_long, none_faulty, none_long, reaches_long}
 
 -- what stops a judgement: the first input that is too long, or else the first that has a fault
 abbrev pub stop_of : Option Input → Option (Input × Fault) → Option (Input × Fault)
@@ -47,17 +49,10 @@ module _ (r : Reading) (inputs : List Wanted) (says : List (List ℕ) → Verdic
   faulty : (which : Input) (fault : Fault) → IsFaulty r inputs which fault → the_stop ≡ Some (which, fault)
   unfolding the_stop
   faulty which fault (inl (same, (at, name, reaches, last, over, long))) =
-      ap (λ l. stop_of l (first_fault (asks_of inputs) all)) (reaches_long r.told (places_of inputs) all at which name tells reaches long) ∙ ap (λ f. Some (which, f)) (sym same)
+      ap (λ l. stop_of l (first_fault (asks_of inputs) all)) (reaches_long r.told (places_of inputs) all at which name (each_first r.told (places_of inputs) all tells) (inside_all r.told (places_of inputs) all at which name tells reaches) reaches long) ∙ ap (λ f. Some (which, f)) (sym same)
   faulty which fault (inr (given, gives, first)) =
       let on = on_told (λ l. FirstFault (asks_of inputs) l which fault) given gives first in
       by_faults on.0 ∙ is_first (asks_of inputs) all which fault on.1
-
-  -- the first fault of what they tell stops the judgement
-  pub fault_of_all : (which : Input) (fault : Fault) → FaultOfAll (asks_of inputs) all which fault → the_stop ≡ Some (which, fault)
-  unfolding the_stop
-  fault_of_all which fault (inl (same, long)) =
-      ap (λ l. stop_of l (first_fault (asks_of inputs) all)) (is_first_long inputs all which long) ∙ ap (λ f. Some (which, f)) (sym same)
-  fault_of_all which fault (inr (short, first)) = by_faults short ∙ is_first (asks_of inputs) all which fault first
 
   -- a verdict is on what the inputs tell
   pub judged_alone : (v : Verdict) (untyped : Option Remark) (text : List ℕ) → Replies r inputs says (Judged v untyped) text → AreShort all × AreReadable (asks_of inputs) all × says all v untyped text
@@ -96,6 +91,50 @@ module _ (r : Reading) (inputs : List Wanted) (says : List (List ℕ) → Verdic
   pub one_reply : SaysOne inputs says → (o p : Outcome) (text other : List ℕ) → ((which : Input) → o ≡ ReadFault which → ⊥) → ((which : Input) → p ≡ ReadFault which → ⊥)
       → Replies r inputs says o text → Replies r inputs says p other → (o ≡ p) × (text ≡ other)
   one_reply alone o p text other o_not p_not one two = same_reply alone the_stop o p text other (replies_alone o text o_not one) (replies_alone p other p_not two)
+
+-- ---- where the bytes of the first inputs are known, and one of them has a fault
+
+module _ (r : Reading) (inputs : List Wanted) (says : List (List ℕ) → Verdict → Option Remark → List ℕ → Type 0) (all : List (List ℕ)) (which : Input) (fault : Fault)
+    (tells : TellsFirst r.told (places_of inputs) all) (after : AreShortAfter r (length all) (places_of inputs)) (first : FaultOfAll (asks_of inputs) all which fault) where
+  -- if the inputs gave bytes, their first fault is this one
+  of_given : (given : List (List ℕ)) → Gives r.told (places_of inputs) given → first_fault (asks_of inputs) given ≡ Some (which, fault)
+  of_given given gives = of first
+    where
+      of : FaultOfAll (asks_of inputs) all which fault → first_fault (asks_of inputs) given ≡ Some (which, fault)
+      of (inl (same, long)) = absurd (first_short r.told inputs all given which tells gives long)
+      of (inr (short, one)) = is_first (asks_of inputs) given which fault (first_given r.told inputs all given which fault tells gives one)
+
+  -- an input that is too long is this one
+  of_long : (other : Input) → first_long (places_of inputs) all ≡ Some other → Unreadable other too_long ≡ Unreadable which fault
+  of_long other is = of first
+    where
+      of : FaultOfAll (asks_of inputs) all which fault → Unreadable other too_long ≡ Unreadable which fault
+      of (inl (same, long)) = let this : first_long (places_of inputs) all ≡ Some which = is_first_long inputs all which long in cc
+      of (inr (short, one)) = let none : first_long (places_of inputs) all ≡ None = none_long (places_of inputs) all short in cc
+
+  of_faulty : (other : Input) (its : Fault) → IsFaulty r inputs other its → Unreadable other its ≡ Unreadable which fault
+  of_faulty other its (inl (same, (at, name, reaches, last, over, long))) = by (cases_lt at (length all))
+    where
+      by : (at < length all) ⊎ (length all ≤ at) → Unreadable other its ≡ Unreadable which fault
+      by (inl inside) = ap (λ f. Unreadable other f) same ∙ of_long other (reaches_long r.told (places_of inputs) all at other name tells inside reaches long)
+      by (inr past) = let short : r.given ≤ input_limit = after at other name past reaches last long in absurd (omega (arith, over))
+  of_faulty other its (inr (given, gives, one)) =
+      let this : first_fault (asks_of inputs) given ≡ Some (which, fault) = of_given given gives in
+      let that : first_fault (asks_of inputs) given ≡ Some (other, its) = is_first (asks_of inputs) given other its one in
+      let same : ◌≡◌ {A = Input × Fault} (other, its) (which, fault) = cc in
+      ap (λ (p : Input × Fault). Unreadable p.0 p.1) same
+
+  pub first_answers : (outcome : Outcome) (text : List ℕ) → ((other : Input) → outcome ≡ ReadFault other → ⊥) → Replies r inputs says outcome text → outcome ≡ Unreadable which fault
+  first_answers (Judged v untyped) text never (given, gives, (readable, said)) =
+      let this : first_fault (asks_of inputs) given ≡ Some (which, fault) = of_given given gives in
+      let none : first_fault (asks_of inputs) given ≡ None = none_faulty (asks_of inputs) given readable in
+      cc
+  first_answers (Unreadable other its) text never reply = of_faulty other its reply.0
+  first_answers (ReadFault other) text never reply = absurd (never other refl)
+  first_answers Help text never reply = absurd reply
+  first_answers Usage text never reply = absurd reply
+  first_answers (NoMemory cause) text never reply = absurd reply
+  first_answers WriteFault text never reply = absurd reply
 
 -- ---- where all inputs are served
 
@@ -141,12 +180,10 @@ module _ (r : Reading) where
         verdict_alone r inputs says all (served_tells inputs all served) (served_short inputs all served) (served_readable inputs all served) outcome text
         (never_fails (served_unfailed inputs all served)) reply
 
-    -- where no reading failed, the first fault is answered
-    pub fault_answers : TellsEach r.told (places_of inputs) all → AreUnfailed r inputs → (which : Input) (fault : Fault) → FaultOfAll (asks_of inputs) all which fault → outcome ≡ Unreadable which fault
-    fault_answers tells unfailed which fault first =
-        let alone = replies_alone r inputs says all tells outcome text (never_fails unfailed) reply in
-        let this : the_stop r inputs says all tells ≡ Some (which, fault) = fault_of_all r inputs says all tells which fault first in
-        (subst (λ s. IsReply r inputs says all tells s outcome text) this alone).0
+    -- where no reading failed, the first fault of the first inputs is answered
+    pub fault_answers : (which : Input) (fault : Fault) → TellsFirst r.told (places_of inputs) all → AreUnfailed r inputs → AreShortAfter r (length all) (places_of inputs)
+        → FaultOfAll (asks_of inputs) all which fault → outcome ≡ Unreadable which fault
+    fault_answers which fault tells unfailed after first = first_answers r inputs says all which fault tells after first outcome text (never_fails unfailed) reply
 
 -- a verdict with its text, of which a fact is known
 pub verdict_with : (says : List (List ℕ) → Verdict → Option Remark → List ℕ → Type 0) (all : List (List ℕ)) (outcome : Outcome) (text : List ℕ) (P : List ℕ → Type 0)

@@ -4,37 +4,36 @@ use Rattle.abi_base.specs.Limits.{input_limit}
 use Rattle.trial_libraries.specs.declared.making.Side.{Side}
 use Rattle.trial_libraries.specs.declared.making.Side.TheVariants.{Old, New}
 use Rattle.trial_libraries.specs.Libraries.{library}
-use Rattle.report.specs.Listening.{Voice}
 use Rattle.library_check.specs.Checks.{AreReadable, IsCertificateText, IsReportText}
 use Rattle.library_check.specs.trial.Summaries.{summary_of}
-use Rattle.library_check.specs.trial.Trials.{IsNoText, IsSaid, IsTrialText, IsYesText, export_count, new_library, old_library}
+use Rattle.library_check.specs.trial.Trials.{IsNoText, IsSaid, IsTrialText, IsYesText, export_count, new_library, old_library, trial_voices}
 
 -- What `check` prints of two libraries that may be inputs is one text.
-pub record HasOneText (voices : List Voice) : Type 0 where
+pub record HasOneText : Type 0 where
   pub certificate : (old new rules text other : List ℕ) → length old ≤ input_limit → length new ≤ input_limit → AreReadable old new rules
       → IsCertificateText old new rules text → IsCertificateText old new rules other → text ≡ other
   pub report : (old new rules text other : List ℕ) → length old ≤ input_limit → length new ≤ input_limit → AreReadable old new rules
-      → IsReportText voices old new rules text → IsReportText voices old new rules other → text ≡ other
+      → IsReportText trial_voices old new rules text → IsReportText trial_voices old new rules other → text ≡ other
 
-one_yes : (voices : List Voice) (n : ℕ) (lines other : List ℕ) → HasOneText voices → ((side : Side) → length (library n side) ≤ input_limit)
+one_yes : (n : ℕ) (lines other : List ℕ) → HasOneText → ((side : Side) → length (library n side) ≤ input_limit)
     → AreReadable (old_library n) (new_library n) [] → IsYesText n lines → IsYesText n other → lines ≡ other
-one_yes voices n lines other one short readable a b =
+one_yes n lines other one short readable a b =
     let text = one.certificate (old_library n) (new_library n) [] a.certificate b.certificate (short Old) (short New) readable a.printed b.printed in
     a.is ∙ ap (summary_of n (codes "yes") (export_count n)) text ∙ sym b.is
 
-one_no : (voices : List Voice) (n : ℕ) (lines other : List ℕ) → HasOneText voices → ((side : Side) → length (library n side) ≤ input_limit)
-    → AreReadable (old_library n) (new_library n) [] → IsNoText voices n lines → IsNoText voices n other → lines ≡ other
-one_no voices n lines other one short readable a b =
+one_no : (n : ℕ) (lines other : List ℕ) → HasOneText → ((side : Side) → length (library n side) ≤ input_limit)
+    → AreReadable (old_library n) (new_library n) [] → IsNoText n lines → IsNoText n other → lines ≡ other
+one_no n lines other one short readable a b =
     let text = one.report (old_library n) (new_library n) [] a.report b.report (short Old) (short New) readable a.printed b.printed in
     a.is ∙ ap (summary_of n (codes "no") (export_count n)) text ∙ sym b.is
 
-one_said : (voices : List Voice) (n : ℕ) (lines other : List ℕ) → HasOneText voices → ((side : Side) → length (library n side) ≤ input_limit)
-    → AreReadable (old_library n) (new_library n) [] → IsSaid voices n lines → IsSaid voices n other → lines ≡ other
-one_said voices n lines other one short readable (inl a) (inl b) = one_yes voices n lines other one short readable a b
-one_said voices n lines other one short readable (inr a) (inr b) = one_no voices n lines other one short readable a b
-one_said voices n lines other one short readable (inl a) (inr b) = absurd (b.incompatible a.compatible)
-one_said voices n lines other one short readable (inr a) (inl b) = absurd (a.incompatible b.compatible)
+one_said : (n : ℕ) (lines other : List ℕ) → HasOneText → ((side : Side) → length (library n side) ≤ input_limit)
+    → AreReadable (old_library n) (new_library n) [] → IsSaid n lines → IsSaid n other → lines ≡ other
+one_said n lines other one short readable (inl a) (inl b) = one_yes n lines other one short readable a b
+one_said n lines other one short readable (inr a) (inr b) = one_no n lines other one short readable a b
+one_said n lines other one short readable (inl a) (inr b) = absurd (b.incompatible a.compatible)
+one_said n lines other one short readable (inr a) (inl b) = absurd (a.incompatible b.compatible)
 
-pub one_text : (voices : List Voice) (n : ℕ) (lines other : List ℕ) → HasOneText voices → ((side : Side) → length (library n side) ≤ input_limit)
-    → IsTrialText voices n lines → IsTrialText voices n other → lines ≡ other
-one_text voices n lines other one short a b = one_said voices n lines other one short a.readable a.said b.said
+pub one_text : (n : ℕ) (lines other : List ℕ) → HasOneText → ((side : Side) → length (library n side) ≤ input_limit)
+    → IsTrialText n lines → IsTrialText n other → lines ≡ other
+one_text n lines other one short a b = one_said n lines other one short a.readable a.said b.said

@@ -1,8 +1,9 @@
 -- What a trial of n functions prints: what `check` says about the two libraries made of them, with an empty rule file.
-use Rattle.std.specs.Prelude.{◌≡◌, ◌⊎◌, ℕ, List, [], length, codes}
+use Rattle.std.specs.Prelude.{◌≡◌, ◌⊎◌, ℕ, List, [], ◌∷◌, length, codes}
 use Rattle.trial_libraries.specs.declared.making.Side.TheVariants.{Old, New}
 use Rattle.trial_libraries.specs.Libraries.{library}
-use Rattle.report.specs.Listening.{Voice}
+use Rattle.report.specs.Listening.{Voice, styled}
+use Rattle.report.specs.declared.style.Style.TheVariants.{Text}
 use Rattle.library_read.specs.Libraries.{library_of}
 use Rattle.library_check.specs.declared.checking.Unchecked.{Unchecked}
 use Rattle.library_check.specs.Checks.{AreReadable, Compatible, IsCertificateText, IsReportText, IsUnchecked}
@@ -26,21 +27,25 @@ pub record IsYesText (n : ℕ) (lines : List ℕ) : Type 0 where
   pub printed : IsCertificateText (old_library n) (new_library n) [] certificate
   pub is : lines ≡ summary_of n (codes "yes") (export_count n) certificate
 
--- a no: the lines summarize the report that `check` prints, with listeners of these voices, in this order
-pub record IsNoText (voices : List Voice) (n : ℕ) (lines : List ℕ) : Type 0 where
+-- the one listener that hears the breaks: it makes a line of each
+abbrev pub trial_voices : List Voice
+trial_voices = styled Text ∷ []
+
+-- a no: the lines summarize the report that `check` prints, with one listener of the style `text`
+pub record IsNoText (n : ℕ) (lines : List ℕ) : Type 0 where
   pub report : List ℕ
   pub incompatible : Compatible (old_library n) (new_library n) [] → ⊥
-  pub printed : IsReportText voices (old_library n) (new_library n) [] report
+  pub printed : IsReportText trial_voices (old_library n) (new_library n) [] report
   pub is : lines ≡ summary_of n (codes "no") (export_count n) report
 
 -- what is said about the two libraries
-abbrev pub IsSaid : List Voice → ℕ → List ℕ → Type 0
-IsSaid voices n lines = IsYesText n lines ⊎ IsNoText voices n lines
+abbrev pub IsSaid : ℕ → List ℕ → Type 0
+IsSaid n lines = IsYesText n lines ⊎ IsNoText n lines
 
--- the libraries of the trial are readable, and these are its lines, with listeners of these voices
-pub record IsTrialText (voices : List Voice) (n : ℕ) (lines : List ℕ) : Type 0 where
+-- the libraries of the trial are readable, and these are its lines
+pub record IsTrialText (n : ℕ) (lines : List ℕ) : Type 0 where
   pub readable : AreReadable (old_library n) (new_library n) []
-  pub said : IsSaid voices n lines
+  pub said : IsSaid n lines
 
 -- why a trial gives no verdict: the same as `check` of the two libraries
 abbrev pub IsUntried : ℕ → Unchecked → Type 0

@@ -6,7 +6,7 @@ use Rattle.abi_top.specs.Calls.{Call}
 use Rattle.cli_args.specs.Words.{texts}
 use Rattle.commands.specs.Reading.{reading_of}
 use Rattle.abi_top.proofs.ParsedArguments.{complete_says, fault_says}
-use Rattle.abi_top.proofs.Rows.{done_says, itself_says, no_agreed, no_says, refused_says, yes_agreed, yes_says}
+use Rattle.abi_top.proofs.Rows.{done_says, itself_says, no_agreed, no_says, refused_says, yes_agreed, yes_leaves, yes_says}
 use Rattle.abi_top.proofs.top.run.Goals as goal
 
 pub returns-in-Ok-write_all-clause-yes : goal.returns-in-Ok-write_all-clause-yes
@@ -30,6 +30,12 @@ returns-in-Ok-write_all-clause-yes_agreed g c = λ untyped is.
     let call : Call = record { words = texts c.args.words.now; voices = map (λ b. (goal.Listener-dyn g (b.vtable, b.value)).voice b.value) c.args.listeners.items; reading = reading_of g.I.Inputs.told g.I.Inputs.faults g.I.Inputs.given g.I.Inputs.started c.args.inputs.now c.answer_to.new.inputs } in
     let answers = subst (λ o. Answers call o c.in-Ok.answer.text.items) is c.in-Ok.ensures.answers in
     yes_agreed c.compatible_is_that_accesses_agree.ensures.exact c.compatible_is_that_accesses_agree.ensures.app call untyped c.in-Ok.answer.text.items answers
+
+pub returns-in-Ok-write_all-clause-yes_leaves : goal.returns-in-Ok-write_all-clause-yes_leaves
+returns-in-Ok-write_all-clause-yes_leaves g c = λ untyped is.
+    let call : Call = record { words = texts c.args.words.now; voices = map (λ b. (goal.Listener-dyn g (b.vtable, b.value)).voice b.value) c.args.listeners.items; reading = reading_of g.I.Inputs.told g.I.Inputs.faults g.I.Inputs.given g.I.Inputs.started c.args.inputs.now c.answer_to.new.inputs } in
+    let answers = subst (λ o. Answers call o c.in-Ok.answer.text.items) is c.in-Ok.ensures.answers in
+    yes_leaves c.compatible_is_that_accesses_agree.ensures.leaves c.compatible_is_that_accesses_agree.ensures.app_leaves call untyped c.in-Ok.answer.text.items answers
 
 pub returns-in-Ok-write_all-clause-no_agreed : goal.returns-in-Ok-write_all-clause-no_agreed
 returns-in-Ok-write_all-clause-no_agreed g c = λ untyped is.
@@ -70,9 +76,9 @@ returns-in-Ok-write_all-clause-complete g c = λ asked all is served sink memory
     complete_says call asked is all served c.in-Ok.answer.outcome c.in-Ok.answer.text.items A c.in-Ok.ensures.answers whole
 
 pub returns-in-Ok-write_all-clause-first_fault : goal.returns-in-Ok-write_all-clause-first_fault
-returns-in-Ok-write_all-clause-first_fault g c = λ asked all which fault is tells unfailed first sink memory.
+returns-in-Ok-write_all-clause-first_fault g c = λ asked all which fault is tells after unfailed first sink memory.
     let call : Call = record { words = texts c.args.words.now; voices = map (λ b. (goal.Listener-dyn g (b.vtable, b.value)).voice b.value) c.args.listeners.items; reading = reading_of g.I.Inputs.told g.I.Inputs.faults g.I.Inputs.given g.I.Inputs.started c.args.inputs.now c.answer_to.new.inputs } in
-    fault_says call asked is all tells unfailed which fault first c.in-Ok.answer.outcome c.in-Ok.answer.text.items c.in-Ok.ensures.answers
+    fault_says call asked is all tells after unfailed which fault first c.in-Ok.answer.outcome c.in-Ok.answer.text.items c.in-Ok.ensures.answers
 
 pub returns-clause-front : goal.returns-clause-front
 returns-clause-front g c = λ is. (

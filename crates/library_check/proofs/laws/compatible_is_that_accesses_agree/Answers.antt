@@ -30,3 +30,12 @@ returns-clause-leaves c = λ old new rules old_short new_short old_readable new_
       old = record { library = c.readable_files_are_libraries.ensures old old_short old_readable; graph = c.nodes_stand_for_what_exports_reach.ensures.graph old old_short old_readable };
       new = record { library = c.readable_files_are_libraries.ensures new new_short new_readable; graph = c.nodes_stand_for_what_exports_reach.ensures.graph new new_short new_readable };
     })
+
+pub returns-clause-app_leaves : goal.returns-clause-app_leaves
+unfolding library_of
+returns-clause-app_leaves c = λ app old new rules old_short new_short old_readable new_readable.
+    c.compatible_is_that_accesses_agree.ensures.leaves (sides_for app old new rules)
+    (record {
+      old = record { library = c.readable_files_are_libraries.ensures old old_short old_readable; graph = c.nodes_stand_for_what_exports_reach.ensures.graph old old_short old_readable };
+      new = record { library = c.readable_files_are_libraries.ensures new new_short new_readable; graph = c.nodes_stand_for_what_exports_reach.ensures.graph new new_short new_readable };
+    })
