@@ -1,5 +1,5 @@
 -- The order of sections by their handles, and the search for a handle.
-use Rattle.std.proofs.Common.{zero, suc, ◌≡◌, ◌<◌, ◌≤◌, ◌+◌, ◌-◌, ℕ, Bool, true, false, List, [], ◌∷◌, ◌++◌, length, take, drop, get_or, refl, sym, ap, ◌∙◌, inl, inr, arith}
+use Rattle.std.proofs.Common.{◌≡◌, ◌<◌, ◌≤◌, ◌+◌, ◌-◌, ℕ, Bool, true, false, List, length, take, drop, get_or, refl, sym, ap, ◌∙◌, inl, inr, arith}
 use Rattle.std.specs.Prelude.{Contains}
 use Rattle.std.specs.List.Sorted.{IsPartitionedBy, IsPartitionPoint}
 use Rattle.std.specs.Cmp.{IsTotalOrder, IsStrictWeakOrder}
@@ -48,7 +48,7 @@ less_down x y z below less = go (handle_cmp x y) refl below where
 one_pair : (x y : PlainHandle) → x.0 ≡ y.0 → x.1 ≡ y.1 → x ≡ y
 one_pair x y first second = λ i. (first i, second i)
 
-one_handle : (x y : PlainHandle) → handle_cmp x y ≡ Equal → x ≡ y
+pub one_handle : (x y : PlainHandle) → handle_cmp x y ≡ Equal → x ≡ y
 one_handle x y e =
     let both = then_equal (nat_cmp x.0 y.0) (slice_cmp nat_cmp x.1 y.1) e in
     one_pair x y (nat_equal x.0 y.0 both.0) (bytes_equal x.1 y.1 both.1)
@@ -62,7 +62,7 @@ module _ (handles : List PlainHandle) (places : List ℕ) (handle : PlainHandle)
   abbrev pub is_upto : ℕ → Bool
   is_upto k = is_le (handle_cmp (handle_at handles k) handle)
 
-  rise : (i j d : ℕ) → i ≤ j → j < length places → is_gt (place_cmp handles (get_or places i d) (get_or places j d)) ≡ false
+  pub rise : (i j d : ℕ) → i ≤ j → j < length places → is_gt (place_cmp handles (get_or places i d) (get_or places j d)) ≡ false
   rise i j d le inside =
       ap is_gt ((place_total handles).antisymm (get_or places i d) (get_or places j d))
       ∙ not_above (place_cmp handles (get_or places j d) (get_or places i d)) (sorted_far (λ (x y : ℕ). is_lt (place_cmp handles x y)) (place_weak handles) places order.rises i j d le inside)

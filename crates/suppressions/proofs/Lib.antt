@@ -5,3 +5,5 @@ mod HandleLemmas
 mod HoldLemmas
 mod UnnamedLemmas
 mod FlagLemmas
+mod WeightLemmas
+mod CrowdLemmas

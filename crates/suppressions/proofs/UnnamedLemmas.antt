@@ -1,6 +1,5 @@
 -- Sections that ask about no name.
 use Rattle.std.proofs.Common.{◌≡◌, ℕ, Bool, true, false, List, [], ◌∷◌, Option, refl, sym, ◌∙◌, ap}
-use Rattle.std.specs.Prelude.{◌||◌}
 use Rattle.std.specs.List.{list_all, list_any}
 use Rattle.abi_base.proofs.lemmas.Bools.{or_is_false}
 use Rattle.abi_types.specs.declared.kind.Way.TheVariants.{Direct, Pointer}

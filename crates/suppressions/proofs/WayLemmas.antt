@@ -1,6 +1,5 @@
 -- Sections without `accessed_through`.
-use Rattle.std.proofs.Common.{◌≡◌, ℕ, Bool, true, false, List, [], ◌∷◌, map, Option, refl}
-use Rattle.std.specs.Prelude.{◌||◌}
+use Rattle.std.proofs.Common.{◌≡◌, ℕ, false, List, [], ◌∷◌, map, Option, refl}
 use Rattle.std.specs.List.{list_all, list_any}
 use Rattle.abi_base.proofs.lemmas.Bools.{or_is_false}
 use Rattle.abi_types.specs.declared.kind.Way.TheVariants.{Direct, Pointer}

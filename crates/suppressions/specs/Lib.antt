@@ -9,3 +9,5 @@ pub mod Handles
 pub mod PlainHandles
 pub mod Holding
 pub mod Flags
+pub mod Weights
+pub mod Limits

@@ -1,5 +1,6 @@
 // Which names of types the sections mark. Each name is judged once.
-ghost use Rattle.std.specs.Prelude.{◌≡◌, IfOk, OnOk, map};
+ghost use Rattle.std.specs.Prelude.{◌≡◌, IfErr, IfOk, OnOk, map};
+ghost use Rattle.abi_base.specs.declared.fault.NoMemory.TheVariants.{Allocation};
 ghost use Rattle.std.specs.Option.{option_copied};
 ghost use Rattle.abi_types.specs.Plain.{plain_label};
 ghost use Rattle.suppressions.specs.Names as spec;
@@ -78,6 +79,7 @@ fn name_once<'x>(
     ensures ways { IfOk result (λ ways. ways ≡ name_ways sections.old (option_copied soname.entry) (plain_label label.now)) }
     ensures same { sections.new ≡ sections.old }
     ensures known { OnOk result (IsKnown sections.old (option_copied soname.entry) known.new) }
+    ensures named { IfErr result (λ e. e ≡ Allocation) }
 {
     let judged = judged_label(sections, label);
     if let Some(ways) = known_name(known, &judged) {
@@ -99,6 +101,7 @@ pub fn names_once<'x>(
     ensures ways { IfOk result (λ ways. ways ≡ names_ways sections.old (option_copied soname.entry) (map plain_label labels.now)) }
     ensures same { sections.new ≡ sections.old }
     ensures known { OnOk result (IsKnown sections.old (option_copied soname.entry) known.new) }
+    ensures named { IfErr result (λ e. e ≡ Allocation) }
 {
     let mut direct = false;
     let mut pointer = false;

@@ -1,6 +1,7 @@
 //! The properties of sections, with their patterns on the heap. A compiled pattern takes kilobytes, and most properties have none:
 //! without a pattern, a property takes a few bytes here.
-ghost use Rattle.std.specs.Prelude.{◌≡◌, IfOk};
+ghost use Rattle.std.specs.Prelude.{◌≡◌, IfErr, IfOk};
+ghost use Rattle.abi_base.specs.declared.fault.NoMemory.TheVariants.{Allocation};
 ghost use Rattle.suppression_text.specs.Passing.{passes};
 
 use abi_base::NoMemory;
@@ -32,7 +33,8 @@ impl<'r> Model for BoxedProperty<'r> {
 impl<'r> BoxedProperty<'r> {
     /// Compiles the pattern of a property, if it has one.
     pub fn of(alloc: Global, property: &'r Property) -> Result<BoxedProperty<'r>, NoMemory>
-        ensures { IfOk result (λ boxed. boxed ≡ property.now) }
+        ensures is { IfOk result (λ boxed. boxed ≡ property.now) }
+        ensures named { IfErr result (λ e. e ≡ Allocation) }
     {
         if !property.has_pattern() {
             return Ok(BoxedProperty {
@@ -49,7 +51,8 @@ impl<'r> BoxedProperty<'r> {
 
     /// Prepares the search for the pattern, if there is one.
     pub fn test(&self, alloc: Global) -> Result<BoxedTest<'_>, NoMemory>
-        ensures { IfOk result (λ test. test ≡ self.now) }
+        ensures is { IfOk result (λ test. test ≡ self.now) }
+        ensures named { IfErr result (λ e. e ≡ Allocation) }
     {
         let property = self.property;
         match &self.compiled {

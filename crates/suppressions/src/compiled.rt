@@ -1,5 +1,6 @@
 //! Sections with compiled patterns.
-ghost use Rattle.std.specs.Prelude.{◌≡◌, map, IfOk};
+ghost use Rattle.std.specs.Prelude.{◌≡◌, map, IfErr, IfOk};
+ghost use Rattle.abi_base.specs.declared.fault.NoMemory.TheVariants.{Allocation};
 ghost use Rattle.std.specs.Option.{ForSome};
 ghost use Rattle.suppressions.specs.Handles.{gates_of};
 ghost use Rattle.suppressions.specs.Names as spec;
@@ -70,7 +71,8 @@ fn properties_of<'r>(
     alloc: Global,
     section: &'r Section,
 ) -> Result<Vec<BoxedProperty<'r>>, NoMemory>
-    ensures { IfOk result (λ compiled. compiled.items ≡ section.now.properties) }
+    ensures is { IfOk result (λ compiled. compiled.items ≡ section.now.properties) }
+    ensures named { IfErr result (λ e. e ≡ Allocation) }
 {
     let properties = section.properties();
     let mut compiled = Vec::with_capacity(alloc, properties.len())?;
@@ -83,7 +85,8 @@ fn properties_of<'r>(
 impl<'r> CompiledSection<'r> {
     /// Compiles a section.
     pub fn of(alloc: Global, section: &'r Section) -> Result<CompiledSection<'r>, NoMemory>
-        ensures { IfOk result (λ compiled. compiled ≡ section.now) }
+        ensures is { IfOk result (λ compiled. compiled ≡ section.now) }
+        ensures named { IfErr result (λ e. e ≡ Allocation) }
     {
         let properties = properties_of(alloc, section)?;
         Ok(CompiledSection {
@@ -114,7 +117,8 @@ fn chosen_compiled<'r>(
     sections: &'r [Section],
     asking: bool,
 ) -> Result<Vec<CompiledSection<'r>>, NoMemory>
-    ensures { IfOk result (λ compiled. compiled.items ≡ spec.chosen asking sections.now) }
+    ensures is { IfOk result (λ compiled. compiled.items ≡ spec.chosen asking sections.now) }
+    ensures named { IfErr result (λ e. e ≡ Allocation) }
 {
     let mut compiled = Vec::new(alloc);
     for section in sections {
@@ -127,7 +131,8 @@ fn chosen_compiled<'r>(
 
 // The patterns of sections for names.
 fn gates_in<'c>(alloc: Global, sections: &'c [CompiledSection]) -> Result<Vec<&'c [u8]>, NoMemory>
-    ensures { IfOk result (λ texts. map (λ text. text.now) texts.items ≡ gates_of sections.now) }
+    ensures is { IfOk result (λ texts. map (λ text. text.now) texts.items ≡ gates_of sections.now) }
+    ensures named { IfErr result (λ e. e ≡ Allocation) }
 {
     let mut texts = Vec::new(alloc);
     for section in sections {
@@ -140,7 +145,8 @@ fn gates_in<'c>(alloc: Global, sections: &'c [CompiledSection]) -> Result<Vec<&'
 
 // The patterns of sections for names, compiled together, unless there are few.
 fn gate(alloc: Global, sections: &[CompiledSection]) -> Result<Option<Box<PatternSet>>, NoMemory>
-    ensures { IfOk result (λ gate. ForSome gate (λ set. set.value ≡ gates_of sections.now)) }
+    ensures is { IfOk result (λ gate. ForSome gate (λ set. set.value ≡ gates_of sections.now)) }
+    ensures named { IfErr result (λ e. e ≡ Allocation) }
 {
     let texts = gates_in(alloc, sections)?;
     if texts.len() < FEWEST_TOGETHER {
@@ -176,7 +182,8 @@ impl<'r> CompiledSections<'r> {
         alloc: Global,
         sections: Vec<CompiledSection<'r>>,
     ) -> Result<CompiledSections<'r>, NoMemory>
-        ensures { IfOk result (λ compiled. compiled ≡ sections.entry.items) }
+        ensures is { IfOk result (λ compiled. compiled ≡ sections.entry.items) }
+        ensures named { IfErr result (λ e. e ≡ Allocation) }
     {
         let gate = gate(alloc, sections.as_slice())?;
         Ok(CompiledSections { sections, gate })
@@ -188,7 +195,8 @@ impl<'r> CompiledSections<'r> {
         sections: &'r [Section],
         asking: bool,
     ) -> Result<CompiledSections<'r>, NoMemory>
-        ensures { IfOk result (λ compiled. compiled ≡ spec.chosen asking sections.now) }
+        ensures is { IfOk result (λ compiled. compiled ≡ spec.chosen asking sections.now) }
+        ensures named { IfErr result (λ e. e ≡ Allocation) }
     {
         CompiledSections::together(alloc, chosen_compiled(alloc, sections, asking)?)
     }
@@ -202,7 +210,8 @@ impl<'r> CompiledSections<'r> {
 
     /// A searcher for all patterns for names, if they are compiled together.
     pub fn gate(&self, alloc: Global) -> Result<Option<Box<SetFinder<'_>>>, NoMemory>
-        ensures { IfOk result (λ gate. ForSome gate (λ finder. finder.value ≡ gates_of self.now)) }
+        ensures is { IfOk result (λ gate. ForSome gate (λ finder. finder.value ≡ gates_of self.now)) }
+        ensures named { IfErr result (λ e. e ≡ Allocation) }
     {
         match &self.gate {
             None => Ok(None),

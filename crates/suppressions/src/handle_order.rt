@@ -1,12 +1,13 @@
 // The order of sections by their handles, in which a binary search finds the sections of a handle.
-ghost use Rattle.std.specs.Prelude.{◌≡◌, ◌≤◌, ◌-◌, false, true, length, take, drop, map, IfErr, IfOk};
+ghost use Rattle.std.specs.Prelude.{◌≡◌, ◌≤◌, ◌-◌, false, true, length, take, drop, map, IfErr, IfOk, OnErr};
 ghost use Rattle.std.specs.List.{range_with_len};
 ghost use Rattle.std.specs.List.Sorted.{IsPartitionPoint};
 ghost use Rattle.std.specs.Ordering.{is_lt, is_le};
-ghost use Rattle.abi_base.specs.declared.fault.NoMemory.TheVariants.{Past};
-ghost use Rattle.abi_base.specs.declared.limit.Limit.TheVariants.{Patterns};
+ghost use Rattle.abi_base.specs.declared.fault.NoMemory.TheVariants.{Allocation, Past};
+ghost use Rattle.abi_base.specs.declared.limit.Limit.TheVariants.{BlockSections};
 ghost use Rattle.suppressions.specs.Handles.{handle_cmp, handles_of, place_cmp, IsHandleOrder, AreAt};
 ghost use Rattle.suppressions.specs.Handles as spec;
+ghost use Rattle.suppressions.specs.Limits.{IsCrowded, IsCrowdedBy};
 ghost use Rattle.suppressions.specs.PlainHandles.{plain_handle, plain_handles};
 
 use crate::compiled::CompiledSection;
@@ -14,9 +15,6 @@ use crate::handle::Handle;
 use abi_base::{Limit, NoMemory};
 use std::alloc::Global;
 use std::cmp::Ordering;
-
-// The most sections of a block that are found by one handle, since each of them is tested with each name that has this handle.
-const MOST_OF_A_HANDLE: usize = 1024;
 
 // The handle at a position. Past the end it is `Any`.
 fn handle_at<'x>(handles: &[Handle<'x>], k: usize) -> Handle<'x>
@@ -55,7 +53,8 @@ fn handles_in<'r>(
     alloc: Global,
     sections: &[CompiledSection<'r>],
 ) -> Result<Vec<Handle<'r>>, NoMemory>
-    ensures { IfOk result (λ handles. plain_handles handles.items ≡ handles_of sections.now) }
+    ensures is { IfOk result (λ handles. plain_handles handles.items ≡ handles_of sections.now) }
+    ensures named { IfErr result (λ e. e ≡ Allocation) }
 {
     let mut handles = Vec::with_capacity(alloc, sections.len())?;
     for section in sections {
@@ -66,7 +65,8 @@ fn handles_in<'r>(
 
 // The numbers below a count, in order.
 fn numbers_below(alloc: Global, count: usize) -> Result<Vec<usize>, NoMemory>
-    ensures { IfOk result (λ numbers. numbers.items ≡ range_with_len 0 count) }
+    ensures is { IfOk result (λ numbers. numbers.items ≡ range_with_len 0 count) }
+    ensures named { IfErr result (λ e. e ≡ Allocation) }
 {
     let mut numbers = Vec::with_capacity(alloc, count)?;
     for i in 0..count {
@@ -77,7 +77,8 @@ fn numbers_below(alloc: Global, count: usize) -> Result<Vec<usize>, NoMemory>
 
 // The positions of all handles, in the order of the handles.
 fn places_of(alloc: Global, handles: &[Handle]) -> Result<Vec<usize>, NoMemory>
-    ensures { IfOk result (λ places. IsHandleOrder places.items (plain_handles handles.now)) }
+    ensures is { IfOk result (λ places. IsHandleOrder places.items (plain_handles handles.now)) }
+    ensures named { IfErr result (λ e. e ≡ Allocation) }
 {
     let mut places = numbers_below(alloc, handles.len())?;
     places.sort_unstable_by(|a, b| place_order(handles, *a, *b));
@@ -140,10 +141,13 @@ impl<'r> std::marker::Model for HandleOrder<'r> {
     ghost invariant = { λ o. IsHandleOrder o.places.items (plain_handles o.handles.items) };
 }
 
-// Whether some handle is that of more sections than the limit. Equal handles follow each other in the order of the handles.
-fn is_crowded(handles: &[Handle], places: &[usize]) -> bool {
-    for at in MOST_OF_A_HANDLE..places.len() {
-        if place_order(handles, places[at - MOST_OF_A_HANDLE], places[at]).is_eq() {
+// Whether some handle is that of more sections than this. Equal handles follow each other in the order of the handles.
+fn is_crowded(handles: &[Handle], places: &[usize], most: usize) -> bool
+    requires { IsHandleOrder places.now (plain_handles handles.now) }
+    ensures { result ≡ true → IsCrowdedBy most (plain_handles handles.now) }
+{
+    for at in most..places.len() {
+        if place_order(handles, places[at - most], places[at]).is_eq() {
             return true;
         }
     }
@@ -153,19 +157,22 @@ fn is_crowded(handles: &[Handle], places: &[usize]) -> bool {
 impl<'r> HandleOrder<'r> {
     /// Sorts sections by their handles.
     pub fn of(alloc: Global, sections: &[CompiledSection<'r>]) -> Result<HandleOrder<'r>, NoMemory>
-        ensures { IfOk result (λ order. order ≡ handles_of sections.now) }
+        ensures is { IfOk result (λ order. order ≡ handles_of sections.now) }
+        ensures named { IfErr result (λ e. e ≡ Allocation) }
     {
         let handles = handles_in(alloc, sections)?;
         let places = places_of(alloc, handles.as_slice())?;
         Ok(HandleOrder { handles, places })
     }
 
-    /// Returns `NoMemory` if too many sections have one handle.
+    /// Returns `NoMemory` if too many sections have one handle, since each of them is tested with each name that has this handle.
     pub fn check_limit(&self) -> Result<(), NoMemory>
-        ensures { IfErr result (λ e. e ≡ Past Patterns) }
+        ensures named { IfErr result (λ e. e ≡ Past BlockSections) }
+        ensures past { OnErr result (IsCrowded self.now) }
     {
-        if is_crowded(self.handles.as_slice(), self.places.as_slice()) {
-            return Err(NoMemory::Past(Limit::Patterns));
+        let most = Limit::BlockSections.rate().base as usize;
+        if is_crowded(self.handles.as_slice(), self.places.as_slice(), most) {
+            return Err(NoMemory::Past(Limit::BlockSections));
         }
         Ok(())
     }

@@ -9,9 +9,11 @@ pub mod compiled;
 mod handle;
 mod handle_order;
 pub mod laws;
+mod limits;
 mod marking;
 pub mod ready_section;
 pub mod subject;
+mod weight;
 
 pub use marking::{drops_export, drops_labels, marks};
 pub use suppression_text::{RuleRefusal, Rules, read_rules};

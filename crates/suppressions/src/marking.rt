@@ -1,9 +1,12 @@
 // What a rule file suppresses: an export, a type, and all exports and types of a library.
-ghost use Rattle.std.specs.Prelude.{◌≡◌, ◌||◌, IfOk, false, length, map};
+ghost use Rattle.std.specs.Prelude.{◌≡◌, ◌||◌, IfErr, IfOk, OnOk, false, length, map};
+ghost use Rattle.abi_base.specs.declared.fault.NoMemory.TheVariants.{Allocation};
+ghost use Rattle.abi_base.specs.Outcome.{OnLimit};
 ghost use Rattle.std.specs.Option.{option_copied};
 ghost use Rattle.abi_types.specs.Plain.{plain_export, plain_exports, plain_label};
 ghost use Rattle.abi_types.specs.Types.{PlainNode};
 ghost use Rattle.suppressions.specs.Flags.{AreFlags, AreEither, AreOfOneSize, either as either_of};
+ghost use Rattle.suppressions.specs.Limits.{AreModest, MarksPass, PassesCompiled, PassesHandles};
 ghost use Rattle.suppressions.specs.Marks.{marks_of, AreEvenMarks};
 ghost use Rattle.suppressions.specs.Meaning.{drops, marks_names, is_dropped, is_marked, some_section_holds};
 ghost use Rattle.suppressions.specs.Subjects.{kind_subject};
@@ -11,8 +14,9 @@ ghost use Rattle.suppression_text.specs.declared.key.SectionKind.TheVariants.{Fu
 ghost use Rattle.suppressions.specs.Names.{chosen, some_ask};
 
 use crate::accessed_through::names_once;
-use crate::block::{block_end, check_letters, check_limits};
+use crate::block::block_end;
 use crate::compiled::CompiledSections;
+use crate::limits::{check_letters, check_soname, check_weight};
 use crate::ready_section::ReadyRules;
 use crate::subject::{Subject, section_of_symbol};
 use abi_base::{List, NoMemory};
@@ -29,6 +33,7 @@ fn one_of(one: bool, other: bool) -> bool
 }
 
 // Whether the chosen sections drop an export: with `asking` those that test names, else the others.
+#[tactic(auto, using(crate::proofs::CrowdLemmas::chosen_pass))]
 fn chosen_drop(
     alloc: Global,
     sections: &[Section],
@@ -36,7 +41,8 @@ fn chosen_drop(
     soname: Option<&[u8]>,
     export: &Export,
 ) -> Result<bool, NoMemory>
-    ensures { IfOk result (λ drop. drop ≡ drops (chosen asking sections.now) (option_copied soname.entry) (plain_export export.now)) }
+    ensures is { IfOk result (λ drop. drop ≡ drops (chosen asking sections.now) (option_copied soname.entry) (plain_export export.now)) }
+    ensures past { IfErr result (λ e. OnLimit e (PassesHandles sections.now)) }
 {
     let compiled = CompiledSections::chosen(alloc, sections, asking)?;
     let mut ready = ReadyRules::of(alloc, &compiled)?;
@@ -51,7 +57,8 @@ pub fn drops_export(
     soname: Option<&[u8]>,
     export: &Export,
 ) -> Result<bool, NoMemory>
-    ensures { IfOk result (λ drops. drops ≡ is_dropped rules.now (option_copied soname.entry) (plain_export export.now)) }
+    ensures is { IfOk result (λ drops. drops ≡ is_dropped rules.now (option_copied soname.entry) (plain_export export.now)) }
+    ensures past { IfErr result (λ e. OnLimit e (PassesHandles rules.now.sections)) }
 {
     let named = chosen_drop(alloc, rules.sections(), true, soname, export)?;
     let others = chosen_drop(alloc, rules.sections(), false, soname, export)?;
@@ -83,14 +90,15 @@ fn compiled_mark(
     labels: &[Label],
     way: Way,
 ) -> Result<bool, NoMemory>
-    ensures { IfOk result (λ mark. mark ≡ marks_names compiled.now (option_copied soname.entry) way (map plain_label labels.now)) }
+    ensures is { IfOk result (λ mark. mark ≡ marks_names compiled.now (option_copied soname.entry) way (map plain_label labels.now)) }
+    ensures past { IfErr result (λ e. OnLimit e (PassesCompiled compiled.now)) }
 {
     let mut ready = ReadyRules::of(alloc, compiled)?;
     Ok(marks_labels(&mut ready, soname, labels, way))
 }
 
 /// Whether a rule file marks a type that has these names, if a program reaches it in this way. The library has this soname.
-#[tactic(auto, unfolding(crate::specs::Meaning::is_marked))]
+#[tactic(auto, using(crate::proofs::CrowdLemmas::chosen_pass), unfolding(crate::specs::Meaning::is_marked))]
 pub fn drops_labels(
     alloc: Global,
     rules: &Rules,
@@ -98,7 +106,8 @@ pub fn drops_labels(
     labels: &[Label],
     way: Way,
 ) -> Result<bool, NoMemory>
-    ensures { IfOk result (λ drops. drops ≡ is_marked rules.now (option_copied soname.entry) (map plain_label labels.now) way) }
+    ensures is { IfOk result (λ drops. drops ≡ is_marked rules.now (option_copied soname.entry) (map plain_label labels.now) way) }
+    ensures past { IfErr result (λ e. OnLimit e (PassesHandles rules.now.sections)) }
 {
     let named = CompiledSections::chosen(alloc, rules.sections(), true)?;
     let others = CompiledSections::chosen(alloc, rules.sections(), false)?;
@@ -138,6 +147,7 @@ fn kind_flags(
     requires { some_ask sections.old ≡ false }
     ensures flags { IfOk result (λ flags. flags ≡ map (drops sections.old (option_copied soname.entry)) (plain_exports exports.now)) }
     ensures same { sections.new ≡ sections.old }
+    ensures named { IfErr result (λ e. e ≡ Allocation) }
 {
     let functions = sections.some_holds(&Subject::of_kind(soname, SectionKind::Functions));
     let variables = sections.some_holds(&Subject::of_kind(soname, SectionKind::Variables));
@@ -157,6 +167,7 @@ fn export_flags(
 ) -> Result<List<bool>, NoMemory>
     ensures flags { IfOk result (λ flags. flags ≡ map (drops sections.old (option_copied soname.entry)) (plain_exports exports.now)) }
     ensures same { sections.new ≡ sections.old }
+    ensures named { IfErr result (λ e. e ≡ Allocation) }
 {
     if !sections.asks_names() {
         return kind_flags(alloc, sections, soname, exports);
@@ -184,6 +195,7 @@ fn node_flags(
 ) -> Result<NodeFlags, NoMemory>
     ensures direct { IfOk result (λ flags. flags.direct ≡ map (λ (n : PlainNode). marks_names sections.old (option_copied soname.entry) Way.Direct n.labels) graph.now) }
     ensures pointer { IfOk result (λ flags. flags.pointer ≡ map (λ (n : PlainNode). marks_names sections.old (option_copied soname.entry) Way.Pointer n.labels) graph.now) }
+    ensures named { IfErr result (λ e. e ≡ Allocation) }
 {
     let mut known = BTreeMap::new(alloc);
     let mut direct = List::new(alloc);
@@ -206,13 +218,15 @@ pub struct Flags {
 }
 
 // The flags of the chosen sections: with `asking` those that test names, else the others.
+#[tactic(auto, using(crate::proofs::CrowdLemmas::chosen_pass))]
 fn chosen_flags(
     alloc: Global,
     sections: &[Section],
     asking: bool,
     old: &Library<OldIx>,
 ) -> Result<Flags, NoMemory>
-    ensures { IfOk result (AreFlags (chosen asking sections.now) old.now) }
+    ensures is { IfOk result (AreFlags (chosen asking sections.now) old.now) }
+    ensures past { IfErr result (λ e. OnLimit e (PassesHandles sections.now)) }
 {
     let compiled = CompiledSections::chosen(alloc, sections, asking)?;
     let mut ready = ReadyRules::of(alloc, &compiled)?;
@@ -229,7 +243,8 @@ fn chosen_flags(
 // For each position, whether the flag there is set in one of two lists.
 fn either(alloc: Global, one: &[bool], other: &[bool]) -> Result<List<bool>, NoMemory>
     requires { length one.now ≡ length other.now }
-    ensures { IfOk result (λ flags. flags ≡ either_of one.now other.now) }
+    ensures is { IfOk result (λ flags. flags ≡ either_of one.now other.now) }
+    ensures named { IfErr result (λ e. e ≡ Allocation) }
 {
     let mut flags = List::new(alloc);
     for i in 0..one.len() {
@@ -241,7 +256,8 @@ fn either(alloc: Global, one: &[bool], other: &[bool]) -> Result<List<bool>, NoM
 // Joins the flags of two lists of sections.
 fn either_flags(alloc: Global, one: &Flags, other: &Flags) -> Result<Flags, NoMemory>
     requires { AreOfOneSize one.now other.now }
-    ensures { IfOk result (AreEither one.now other.now) }
+    ensures is { IfOk result (AreEither one.now other.now) }
+    ensures named { IfErr result (λ e. e ≡ Allocation) }
 {
     Ok(Flags {
         exports: either(alloc, one.exports.as_slice(), other.exports.as_slice())?,
@@ -252,13 +268,15 @@ fn either_flags(alloc: Global, one: &Flags, other: &Flags) -> Result<Flags, NoMe
 
 // The flags of the chosen sections: with `asking` those that test names, else the others. It takes the sections block by block, so
 // that only one block's compiled patterns are in memory at a time.
+#[tactic(auto, using(crate::proofs::CrowdLemmas::front_passes, crate::proofs::CrowdLemmas::part_passes))]
 fn flags_of(
     alloc: Global,
     sections: &[Section],
     asking: bool,
     old: &Library<OldIx>,
 ) -> Result<Flags, NoMemory>
-    ensures { IfOk result (AreFlags (chosen asking sections.now) old.now) }
+    ensures is { IfOk result (AreFlags (chosen asking sections.now) old.now) }
+    ensures past { IfErr result (λ e. OnLimit e (PassesHandles sections.now)) }
 {
     let mut end = block_end(sections, 0, asking);
     let mut flags = chosen_flags(alloc, &sections[..end], asking, old)?;
@@ -278,9 +296,12 @@ fn flags_of(
 pub fn marks(alloc: Global, rules: &Rules, old: &Library<OldIx>) -> Result<Marks, NoMemory>
     ensures marks { IfOk result (λ marks. marks ≡ marks_of rules.now old.now) }
     ensures even { IfOk result (AreEvenMarks old.now) }
+    ensures within { OnOk result (AreModest rules.now old.now) }
+    ensures past { IfErr result (λ e. OnLimit e (MarksPass rules.now old.now)) }
 {
     let sections = rules.sections();
-    check_limits(sections, old.soname())?;
+    check_soname(old.soname())?;
+    check_weight(sections)?;
     check_letters(sections, old)?;
     let named = flags_of(alloc, sections, true, old)?;
     let others = flags_of(alloc, sections, false, old)?;

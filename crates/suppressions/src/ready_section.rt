@@ -1,10 +1,13 @@
 //! Sections that are ready to be matched.
-ghost use Rattle.std.specs.Prelude.{◌≡◌, ◌<◌, All, length, IfOk};
+ghost use Rattle.std.specs.Prelude.{◌≡◌, ◌<◌, All, length, IfErr, IfOk};
+ghost use Rattle.abi_base.specs.declared.fault.NoMemory.TheVariants.{Allocation};
+ghost use Rattle.abi_base.specs.Outcome.{OnLimit};
 ghost use Rattle.std.specs.List.{list_all};
 ghost use Rattle.suppressions.specs.PlainHandles.{plain_handle};
 ghost use Rattle.suppressions.specs.PlainSubjects.{plain_subject};
 ghost use Rattle.suppressions.specs.Names as spec;
 ghost use Rattle.suppressions.specs.Handles.{gate_handle};
+ghost use Rattle.suppressions.specs.Limits.{PassesCompiled};
 ghost use Rattle.suppressions.specs.Holding.{one_section_holds, IsLetIn, IsOneOfHandle};
 ghost use Rattle.suppressions.specs.Meaning.{property_holds, section_holds, some_section_holds};
 ghost use Rattle.suppressions.specs.Meaning as meaning;
@@ -40,7 +43,8 @@ fn tests_of<'c>(
     alloc: Global,
     properties: &'c [BoxedProperty],
 ) -> Result<Vec<BoxedTest<'c>>, NoMemory>
-    ensures { IfOk result (λ tests. tests.items ≡ properties.now) }
+    ensures is { IfOk result (λ tests. tests.items ≡ properties.now) }
+    ensures named { IfErr result (λ e. e ≡ Allocation) }
 {
     let mut tests = Vec::with_capacity(alloc, properties.len())?;
     for property in properties {
@@ -97,7 +101,8 @@ impl<'c> ReadySection<'c> {
         alloc: Global,
         compiled: &'c CompiledSection<'r>,
     ) -> Result<ReadySection<'c>, NoMemory>
-        ensures { IfOk result (λ ready. ready ≡ compiled.now) }
+        ensures is { IfOk result (λ ready. ready ≡ compiled.now) }
+        ensures named { IfErr result (λ e. e ≡ Allocation) }
     {
         let tests = tests_of(alloc, compiled.properties())?;
         let section = compiled.section();
@@ -129,7 +134,8 @@ fn ready_sections<'c>(
     alloc: Global,
     compiled: &'c [CompiledSection],
 ) -> Result<Vec<ReadySection<'c>>, NoMemory>
-    ensures { IfOk result (λ ready. ready.items ≡ compiled.now) }
+    ensures is { IfOk result (λ ready. ready.items ≡ compiled.now) }
+    ensures named { IfErr result (λ e. e ≡ Allocation) }
 {
     let mut ready = Vec::with_capacity(alloc, compiled.len())?;
     for section in compiled {
@@ -190,7 +196,8 @@ impl<'c> ReadyRules<'c> {
         alloc: Global,
         compiled: &'c CompiledSections<'r>,
     ) -> Result<ReadyRules<'c>, NoMemory>
-        ensures { IfOk result (λ ready. ready ≡ compiled.now) }
+        ensures is { IfOk result (λ ready. ready ≡ compiled.now) }
+        ensures past { IfErr result (λ e. OnLimit e (PassesCompiled compiled.now)) }
     {
         let sections = ready_sections(alloc, compiled.sections())?;
         let order = HandleOrder::of(alloc, compiled.sections())?;

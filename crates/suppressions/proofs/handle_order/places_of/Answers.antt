@@ -9,10 +9,10 @@ use Rattle.suppressions.specs.PlainHandles.{plain_handle, plain_handles}
 use Rattle.suppressions.proofs.HandleLemmas.{place_weak}
 use Rattle.suppressions.proofs.handle_order.places_of.Goals as goal
 
-pub returns : goal.returns
-returns c =
+pub returns-clause-is : goal.returns-clause-is
+returns-clause-is c =
     let handles = plain_handles c.args.handles.now in
-    let all : c.in_ok-places.places.items ≡ range_with_len 0 (length handles) = rw (length-map c.args.handles.now plain_handle) (c.in_ok-places.ensures) in
+    let all : c.in_ok-places.places.items ≡ range_with_len 0 (length handles) = rw (length-map c.args.handles.now plain_handle) (c.in_ok-places.ensures.is) in
     let P : List ℕ → Type 0 = λ places. IsPermutation places c.sort_unstable_by.new.self.items in
     record {
       all = subst P all c.sort_unstable_by.ensures.permutation;

@@ -3,7 +3,7 @@ use Rattle.abi_types.specs.Plain.{plain_export}
 use Rattle.suppressions.proofs.FlagLemmas.{dropped_by}
 use Rattle.suppressions.proofs.marking.drops_export.Goals as goal
 
-pub returns : goal.returns
-returns c =
+pub returns-clause-is : goal.returns-clause-is
+returns-clause-is c =
     dropped_by c.args.rules.now (option_copied c.args.soname) (plain_export c.args.export.now) c.sections.result.now c.sections-2.result.now c.in_ok-named.named c.in_ok-others.others c.one_of.result
-    c.sections.ensures c.sections-2.ensures c.in_ok-named.ensures c.in_ok-others.ensures c.one_of.ensures
+    c.sections.ensures c.sections-2.ensures c.in_ok-named.ensures.is c.in_ok-others.ensures.is c.one_of.ensures

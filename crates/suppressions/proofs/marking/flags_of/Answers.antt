@@ -5,5 +5,5 @@ pub parts-preserved : goal.parts-preserved
 parts-preserved c = (
   c.block_end-end-in-parts.ensures.inside,
   one_block_more c.args.asking c.args.sections.now c.parts.end c.block_end-end-in-parts.result c.args.old.now c.parts.flags c.in_ok-more.more c.in_ok-flags-2.flags
-      c.block_end-end-in-parts.ensures.rises c.parts.invariant.1 c.in_ok-more.ensures c.in_ok-flags-2.ensures,
+      c.block_end-end-in-parts.ensures.rises c.parts.invariant.1 c.in_ok-more.ensures.is c.in_ok-flags-2.ensures.is,
 )
