@@ -66,6 +66,34 @@ fn types_line(alloc: Global, remark: Remark) -> Result<String, AllocError> {
     )
 }
 
+// Appends the line with the numbers of exports of the old library, if these were counted.
+fn push_compared(
+    alloc: Global,
+    text: &mut Vec<u8>,
+    counts: Option<&Counts>,
+) -> Result<(), AllocError> {
+    match counts {
+        Some(counts) => text.extend_from_slice(compared_line(alloc, counts)?.as_bytes()),
+        None => Ok(()),
+    }
+}
+
+// Appends the line about types, if two libraries were compared.
+fn push_types(alloc: Global, text: &mut Vec<u8>, remark: Option<Remark>) -> Result<(), AllocError> {
+    match remark {
+        Some(remark) => text.extend_from_slice(types_line(alloc, remark)?.as_bytes()),
+        None => Ok(()),
+    }
+}
+
+// The notes as lines, followed by two lines of counts.
+fn lines_of(alloc: Global, beside: &Beside, remark: Option<Remark>) -> Result<Vec<u8>, NoMemory> {
+    let mut text = note_text(alloc, beside.notes.as_slice())?;
+    push_compared(alloc, &mut text, beside.counts.as_ref())?;
+    push_types(alloc, &mut text, remark)?;
+    Ok(text)
+}
+
 /// The notes as lines, followed by two lines of counts, if `check` judged two libraries; else nothing.
 pub(crate) fn text_beside<R: Files + AllocGlobal>(
     rt: &R,
@@ -80,14 +108,5 @@ pub(crate) fn text_beside<R: Files + AllocGlobal>(
         return Ok(Vec::new(rt.alloc()));
     }
     let beside = beside_of_inputs(rt, ended)?;
-    let mut text = note_text(rt.alloc(), beside.notes.as_slice())?;
-    if let Some(counts) = &beside.counts {
-        let line = compared_line(rt.alloc(), counts)?;
-        text.extend_from_slice(line.as_bytes())?;
-    }
-    if let Some(remark) = remark {
-        let line = types_line(rt.alloc(), remark)?;
-        text.extend_from_slice(line.as_bytes())?;
-    }
-    Ok(text)
+    lines_of(rt.alloc(), &beside, remark)
 }

@@ -54,7 +54,7 @@ fn arguments_of<R: Env + AllocGlobal>(rt: &R) -> io::Result<Vec<String>> {
 // The number of rows that the style `first` prints.
 const FIRST_ROWS: u32 = 10;
 
-// The listeners are made in this function, because a contract can promise nothing about listeners that a function returns.
+// Runs the arguments.
 fn outcome_of<R: Files + Print + Eprint + AllocGlobal>(
     rt: &R,
     arguments: &[String],
@@ -64,9 +64,16 @@ fn outcome_of<R: Files + Print + Eprint + AllocGlobal>(
     for argument in arguments {
         words.push(argument.as_str())?;
     }
-    let mut inputs = FileInputs::new(rt);
-    let mut sink = Output::new(rt);
-    // A listener for each style of a report except `own`.
+    run_words(rt, &words, with_notes)
+}
+
+// Runs the arguments with a listener for each style of a report except `own`, and prints what there is to tell beside the answer.
+// The listeners are made in this function, because a contract can promise nothing about listeners that a function returns.
+fn run_words<R: Files + Print + Eprint + AllocGlobal>(
+    rt: &R,
+    words: &[&str],
+    with_notes: bool,
+) -> Result<Outcome, NoMemory> {
     let alloc = rt.alloc();
     let mut listeners: Vec<Box<dyn Listener>> = Vec::new(alloc);
     add_listener(&mut listeners, Box::new(alloc, TextListener::new(alloc))?)?;
@@ -76,13 +83,15 @@ fn outcome_of<R: Files + Print + Eprint + AllocGlobal>(
         &mut listeners,
         Box::new(alloc, FirstListener::new(alloc, FIRST_ROWS))?,
     )?;
-    let ended = run(alloc, &words, &mut inputs, &mut sink, listeners);
+    let mut inputs = FileInputs::new(rt);
+    let mut sink = Output::new(rt);
+    let ended = run(alloc, words, &mut inputs, &mut sink, listeners);
     // Nobody is told that nobody reads.
     if !sink.is_closed() {
-        tell(rt, &words, &ended, sink.first());
+        tell(rt, words, &ended, sink.first());
     }
     if with_notes {
-        tell_notes(rt, &words, &ended);
+        tell_notes(rt, words, &ended);
     }
     Ok(ended.outcome)
 }
