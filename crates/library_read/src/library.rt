@@ -1,26 +1,26 @@
 // A library, from its bytes.
-ghost use Rattle.std.specs.Prelude.{◌≡◌, ◌≤◌, length, IfOk, None};
+ghost use Rattle.std.specs.Prelude.{◌≡◌, ◌≤◌, length, IfErr, IfOk, None};
 ghost use Rattle.std.specs.Option.{option_copied};
 ghost use Rattle.abi_base.specs.Limits.{input_limit};
-ghost use Rattle.abi_base.specs.Outcome.{Judges};
+ghost use Rattle.abi_base.specs.Outcome.{Judges, OnLimit, OnPast};
 ghost use Rattle.abi_types.specs.Plain.{plain_exports};
 ghost use Rattle.elf.specs.symbols.Dynamic.{soname_of};
 ghost use Rattle.library_read.specs.Debug.{debug_of};
 ghost use Rattle.library_read.specs.Exports.{typed_exports_of};
 ghost use Rattle.library_read.specs.Faults.{library_fault};
+ghost use Rattle.library_read.specs.Limits.{IsOnTypes, LibraryPasses, PartsPass};
 ghost use Rattle.library_read.specs.Libraries.{library_of, uncalled_graph_of};
 
 use crate::laws::readable_files_are_libraries;
 use crate::listing::{Listing, read_listing};
 use crate::room::ask_room;
 use crate::typing::{Typed, with_types};
-use abi_base::{Effort, Limit, NoMemory, Refusal};
+use abi_base::{NoMemory, Refusal};
 use abi_types::{Index, Library};
 use dwarf_entries::Dwarf;
 use elf::file::read_elf;
 use psabi::call_shapes;
 use std::alloc::Global;
-use type_graph::GraphLimits;
 
 // What was read of a file.
 #[derive(Drop)]
@@ -42,12 +42,11 @@ fn read_parts<'a, Ix: Index>(alloc: Global, bytes: &'a [u8]) -> Result<Parts<'a,
     ensures exports { IfOk result (λ parts. plain_exports parts.typed.exports ≡ typed_exports_of bytes.now) }
     ensures graph { IfOk result (λ parts. parts.typed.graph ≡ uncalled_graph_of bytes.now) }
     ensures debug { IfOk result (λ parts. parts.dwarf ≡ debug_of bytes.now) }
+    ensures past { IfErr result (λ e. OnPast e (PartsPass bytes.now)) }
 {
     let file = read_elf(bytes)?;
     let Listing { soname, exports } = read_listing(alloc, &file)?;
-    let limits = GraphLimits::for_file(bytes.len());
-    let letters = Effort::for_bytes(Limit::DeclaredNames, bytes.len());
-    let (typed, dwarf) = match with_types(alloc, &file, exports, letters, limits) {
+    let (typed, dwarf) = match with_types(alloc, &file, exports, bytes.len()) {
         Ok(read) => read,
         Err(refused) => return Err(refused),
     };
@@ -59,6 +58,7 @@ fn read_parts<'a, Ix: Index>(alloc: Global, bytes: &'a [u8]) -> Result<Parts<'a,
 }
 
 // The library of a readable file, by what was read of it. Its functions get the places of their calls.
+#[tactic(auto, using(crate::proofs::LimitLemmas::room_pass, crate::proofs::LimitLemmas::leaves_pass))]
 fn library_with<'a, Ix: Index>(
     alloc: Global,
     bytes: &'a [u8],
@@ -70,7 +70,8 @@ fn library_with<'a, Ix: Index>(
     requires soname { option_copied soname ≡ soname_of bytes.now }
     requires exports { plain_exports typed.exports ≡ typed_exports_of bytes.now }
     requires graph { typed.graph ≡ uncalled_graph_of bytes.now }
-    ensures { IfOk result (λ library. library ≡ library_of bytes.now) }
+    ensures library { IfOk result (λ library. library ≡ library_of bytes.now) }
+    ensures past { IfErr result (λ e. OnLimit e IsOnTypes) }
 {
     readable_files_are_libraries();
     let Typed { exports, graph } = typed;
@@ -84,6 +85,7 @@ fn library_with<'a, Ix: Index>(
 /// its versions, of its exports, of its units and entries, and of the types that its exports reach. Names are slices of the file;
 /// nothing else of the debug information is kept. Returns `NoMemory` past a limit, too: the types may have too many parts or too
 /// long names for the size of the file, and the names under which exports are declared may be too long.
+#[tactic(auto, using(crate::proofs::LimitLemmas::parts_pass, crate::proofs::LimitLemmas::on_types_pass))]
 pub fn read_library<'a, Ix: Index>(
     alloc: Global,
     bytes: &'a [u8],
@@ -91,6 +93,7 @@ pub fn read_library<'a, Ix: Index>(
     requires { length bytes.now ≤ input_limit }
     ensures judged { Judges result (library_fault bytes.now) }
     ensures library { IfOk result (λ library. library ≡ library_of bytes.now) }
+    ensures past { IfErr result (λ e. OnPast e (LibraryPasses bytes.now)) }
 {
     let Parts {
         soname,
@@ -117,6 +120,7 @@ pub struct WithDebug<'a, Ix: Index> {
 
 /// The library that a file is, and the debug information that it was read from: for callers that need both, which then read the
 /// file once. Faults and limits are those of `read_library`.
+#[tactic(auto, using(crate::proofs::LimitLemmas::parts_pass, crate::proofs::LimitLemmas::on_types_pass))]
 pub fn read_with_debug<'a, Ix: Index>(
     alloc: Global,
     bytes: &'a [u8],
@@ -125,6 +129,7 @@ pub fn read_with_debug<'a, Ix: Index>(
     ensures judged { Judges result (library_fault bytes.now) }
     ensures library { IfOk result (λ r. r.library ≡ library_of bytes.now) }
     ensures debug { IfOk result (λ r. r.dwarf ≡ debug_of bytes.now) }
+    ensures past { IfErr result (λ e. OnPast e (LibraryPasses bytes.now)) }
 {
     let Parts {
         soname,

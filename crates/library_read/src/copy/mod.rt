@@ -2,7 +2,8 @@
 //! types, so that they cannot be exchanged; where the two files hold the same bytes, the one library is a copy of the other, and
 //! the file is read once.
 
-ghost use Rattle.std.specs.Prelude.{◌≡◌, ◌<◌, length, map, IfOk};
+ghost use Rattle.std.specs.Prelude.{◌≡◌, ◌<◌, length, map, IfErr, IfOk};
+ghost use Rattle.abi_base.specs.declared.fault.NoMemory.TheVariants.{Allocation};
 ghost use Rattle.abi_types.specs.Graphs.{node_at};
 ghost use Rattle.abi_types.specs.Parts.{plain_part};
 ghost use Rattle.abi_types.specs.Plain.{plain_label};
@@ -55,7 +56,8 @@ fn copied_parts<'a, From: Index, To: Index>(
     alloc: Global,
     parts: &Parts<'a, From>,
 ) -> Result<Parts<'a, To>, NoMemory>
-    ensures { IfOk result (λ copy. copy ≡ parts.now) }
+    ensures parts { IfOk result (λ copy. copy ≡ parts.now) }
+    ensures named { IfErr result (λ e. e ≡ Allocation) }
 {
     if parts.len() == 1 {
         return Ok(Parts::one(copied_part(parts.at(0))));
@@ -72,7 +74,8 @@ fn copied_view<'a, From: Index, To: Index>(
     alloc: Global,
     view: &View<'a, From>,
 ) -> Result<View<'a, To>, NoMemory>
-    ensures { IfOk result (λ copy. copy ≡ view.now) }
+    ensures view { IfOk result (λ copy. copy ≡ view.now) }
+    ensures named { IfErr result (λ e. e ≡ Allocation) }
 {
     Ok(View {
         kind: view.kind,
@@ -90,7 +93,8 @@ fn copied_view<'a, From: Index, To: Index>(
 
 // The same labels in memory of their own.
 fn copied_labels<'a>(alloc: Global, labels: &[Label<'a>]) -> Result<List<Label<'a>>, NoMemory>
-    ensures { IfOk result (λ copy. map plain_label copy ≡ map plain_label labels.now) }
+    ensures labels { IfOk result (λ copy. map plain_label copy ≡ map plain_label labels.now) }
+    ensures named { IfErr result (λ e. e ≡ Allocation) }
 {
     List::copy_of(alloc, labels)
 }
@@ -102,7 +106,8 @@ fn copied_node<'a, From: Index, To: Index>(
     ix: From,
 ) -> Result<Node<'a, To>, NoMemory>
     requires { From.number_of ix < length graph.now }
-    ensures { IfOk result (λ copy. copy ≡ node_at graph.now (From.number_of ix)) }
+    ensures node { IfOk result (λ copy. copy ≡ node_at graph.now (From.number_of ix)) }
+    ensures named { IfErr result (λ e. e ≡ Allocation) }
 {
     Ok(Node {
         entry: graph.entry_of(ix),
@@ -117,7 +122,8 @@ fn copied_nodes<'a, From: Index, To: Index>(
     alloc: Global,
     graph: &Graph<'a, From>,
 ) -> Result<List<Node<'a, To>>, NoMemory>
-    ensures { IfOk result (λ copy. copy ≡ graph.now) }
+    ensures graph { IfOk result (λ copy. copy ≡ graph.now) }
+    ensures named { IfErr result (λ e. e ≡ Allocation) }
 {
     let mut nodes = List::of(Vec::with_capacity(alloc, graph.len())?);
     'nodes: for number in 0..graph.len() {
@@ -131,7 +137,8 @@ fn copied_graph<'a, From: Index, To: Index>(
     alloc: Global,
     graph: &Graph<'a, From>,
 ) -> Result<Graph<'a, To>, NoMemory>
-    ensures { IfOk result (λ copy. copy ≡ graph.now) }
+    ensures graph { IfOk result (λ copy. copy ≡ graph.now) }
+    ensures named { IfErr result (λ e. e ≡ Allocation) }
 {
     let nodes = copied_nodes(alloc, graph)?;
     graph.known();
@@ -143,7 +150,8 @@ pub fn copied<'a, From: Index, To: Index>(
     alloc: Global,
     library: &Library<'a, From>,
 ) -> Result<Library<'a, To>, NoMemory>
-    ensures { IfOk result (λ copy. copy ≡ library.now) }
+    ensures library { IfOk result (λ copy. copy ≡ library.now) }
+    ensures named { IfErr result (λ e. e ≡ Allocation) }
 {
     let exports = List::copy_of(alloc, library.exports())?;
     let graph = copied_graph(alloc, library.graph())?;

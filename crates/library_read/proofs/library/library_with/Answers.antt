@@ -14,9 +14,9 @@ new-requires g c =
     subst (λ (es : List PlainExport). IsLibrary es c.with_calls-graph.result) (sym c.requires.exports)
     (subst (IsLibrary (typed_exports_of f)) (sym nodes) (c.readable_files_are_libraries.ensures f c.requires.small c.requires.readable))
 
-pub returns : goal.returns
-returns g c =
+pub returns-clause-library : goal.returns-clause-library
+returns-clause-library g c =
     let f = c.args.bytes.now in
     let nodes = called-is f c.args.typed.graph c.in_ok-calls.calls c.with_calls-graph.result c.requires.graph c.in_ok-calls.ensures.shapes c.with_calls-graph.ensures in
     subst (λ (l : PlainLibrary). IfOk c.new.result (λ (library : PlainLibrary). library ≡ l))
-    (library-is f c.args.soname c.args.typed.exports c.with_calls-graph.result c.requires.soname c.requires.exports nodes) c.new.ensures
+    (library-is f c.args.soname c.args.typed.exports c.with_calls-graph.result c.requires.soname c.requires.exports nodes) c.new.ensures.library
