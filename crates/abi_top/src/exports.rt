@@ -2,14 +2,14 @@
 ghost use Rattle.std.specs.Prelude.{◌≡◌, ◌≤◌, List, [], ◌∷◌, IfOk, length, string_bytes, map, IfErr};
 ghost use Rattle.abi_base.specs.declared.fault.NoMemory.TheVariants.{Allocation};
 ghost use Rattle.abi_base.specs.Limits.{input_limit};
-ghost use Rattle.abi_base.specs.Outcome.{Judges};
+ghost use Rattle.abi_base.specs.Outcome.{Judges, OnPast};
 ghost use Rattle.commands.specs.Commands.{places_of, plain_place};
-ghost use Rattle.abi_top.specs.Rows.Listings.{exports_inputs, exports_passes, exports_says};
+ghost use Rattle.abi_top.specs.Rows.Listings.{ExportsPass, exports_inputs, exports_passes, exports_says};
 ghost use Rattle.listings.specs.exports.ExportLines.{exports_text};
 ghost use Rattle.library_read.specs.Faults.{library_fault};
 ghost use Rattle.library_read.specs.Libraries.{library_of};
 
-use abi_base::{NoMemory, Refusal};
+use abi_base::{Budget, Limit, NoMemory, Refusal};
 use abi_types::{Library, OldIx};
 use commands::{Command, Input, Judgement, Place, Stop, Verdict, one, stop_at};
 use library_read::read_library;
@@ -61,12 +61,15 @@ impl Command for Exports<'_> {
 }
 
 // The lines of the exports of a library.
+#[tactic(auto, using(crate::proofs::Limits::reading_passes, crate::proofs::Limits::lines_pass))]
 fn exports_of(alloc: Global, bytes: &[u8]) -> Result<String, Refusal>
     requires { length bytes.now ≤ input_limit }
     ensures judged { Judges result (library_fault bytes.now) }
     ensures lines { IfOk result (λ text. string_bytes text ≡ exports_text (library_of bytes.now)) }
+    ensures past { IfErr result (λ e. OnPast e (ExportsPass bytes.now)) }
 {
     let library: Library<OldIx> = read_library(alloc, bytes)?;
-    let text = export_lines(alloc, &library)?;
+    let mut budget = Budget::of(Limit::Listing, bytes.len());
+    let text = export_lines(alloc, &library, &mut budget)?;
     Ok(text)
 }

@@ -1,1 +1,2 @@
 mod entries_lemmas
+mod LinesTaken

@@ -1,17 +1,20 @@
 -- `entries` and `exports`: what they read, and the listing that they say.
-use Rattle.std.specs.Prelude.{◌≡◌, ◌⊎◌, ℕ, List, [], ◌∷◌, Option, None}
+use Rattle.std.specs.Prelude.{◌≡◌, ◌⊎◌, ℕ, List, [], ◌∷◌, length, Option, None}
+use Rattle.abi_base.specs.Budgets.{fresh}
 use Rattle.abi_base.specs.declared.limit.Limit.{Limit}
+use Rattle.abi_base.specs.declared.limit.Limit.TheVariants.{Listing}
 use Rattle.abi_base.specs.declared.remark.Remark.{Remark}
 use Rattle.abi_top.specs.Calls.{Call, Reads}
-use Rattle.abi_top.specs.Inputs.{any_limit, library_at}
+use Rattle.abi_top.specs.Inputs.{library_at}
 use Rattle.cli_args.specs.Commands.{entries, exports}
 use Rattle.commands.specs.Commands.{Wanted, named}
 use Rattle.commands.specs.declared.input.Input.TheVariants.{Library}
 use Rattle.commands.specs.declared.verdict.Verdict.{Verdict}
 use Rattle.commands.specs.declared.verdict.Verdict.TheVariants.{Done}
 use Rattle.library_read.specs.Libraries.{library_of}
+use Rattle.library_read.specs.Limits.{LibraryPasses}
 use Rattle.listings.specs.entries.EntryLines.{EntriesPass, listing_fault, listing_of}
-use Rattle.listings.specs.exports.ExportLines.{exports_text}
+use Rattle.listings.specs.exports.ExportLines.{LinesPass, exports_text}
 
 -- an input of `entries` is checked only for the faults that prevent a listing of entries
 abbrev pub entries_inputs : List ℕ → List Wanted
@@ -33,8 +36,13 @@ abbrev pub entries_says : List (List ℕ) → Verdict → Option Remark → List
 entries_says (library ∷ []) v untyped text = IsListed (listing_of library) v untyped text
 entries_says all v untyped text = ⊥
 
+-- The limits that a library passes where its exports are listed: one on what is read of it, or the one on the bytes of the listing.
+abbrev pub ExportsPass : List ℕ → Limit → Type 0
+ExportsPass library limit = LibraryPasses library limit ⊎ LinesPass (exports_text (library_of library)) (fresh Listing (length library)) limit
+
 abbrev pub exports_passes : List (List ℕ) → Limit → Type 0
-exports_passes = any_limit
+exports_passes (library ∷ []) limit = ExportsPass library limit
+exports_passes all limit = ⊥
 
 abbrev pub exports_says : List (List ℕ) → Verdict → Option Remark → List ℕ → Type 0
 exports_says (library ∷ []) v untyped text = IsListed (exports_text (library_of library)) v untyped text

@@ -1,6 +1,8 @@
 -- The output of `abi exports` for a library: a line for each export, with the places of a function's arguments and result.
-use Rattle.std.specs.Prelude.{ℕ, ◌==◌, if◌then◌else◌, List, [], ◌∷◌, ◌++◌, flat_map, Option, Some, None, codes, decimal}
+use Rattle.std.specs.Prelude.{ℕ, ◌≡◌, ◌<◌, ◌+◌, ◌==◌, length, if◌then◌else◌, List, [], ◌∷◌, ◌++◌, flat_map, Option, Some, None, codes, decimal}
 use Rattle.std.specs.List.{concat}
+use Rattle.abi_base.specs.Budgets.{BudgetState}
+use Rattle.abi_base.specs.declared.limit.Limit.{Limit}
 use Rattle.abi_types.specs.declared.place.Place.{Place}
 use Rattle.abi_types.specs.declared.place.CallShape.{CallShape}
 use Rattle.abi_types.specs.Exports.{PlainExport}
@@ -47,3 +49,7 @@ export_line nodes e =
 -- the lines of all exports, in the order of their symbols
 unfoldable pub exports_text : PlainLibrary → List ℕ
 exports_text library = flat_map (export_line library.graph) library.exports
+
+-- a text has more bytes than are left of a budget
+abbrev pub LinesPass : List ℕ → BudgetState → Limit → Type 0
+LinesPass text budget l = (l ≡ budget.limit) × (budget.most < budget.taken + length text)

@@ -1,19 +1,15 @@
 // The lines of exports.
-ghost use Rattle.std.specs.Prelude.{◌≡◌, ◌++◌, flat_map, IfOk, OnOk, string_bytes};
+ghost use Rattle.std.specs.Prelude.{◌≡◌, ◌<◌, ◌≤◌, ◌+◌, ◌++◌, flat_map, length, IfErr, IfOk, OnOk, string_bytes};
+ghost use Rattle.abi_base.specs.Outcome.{OnLimit};
+ghost use Rattle.abi_base.specs.declared.fault.NoMemory.TheVariants.{Allocation};
 ghost use Rattle.abi_types.specs.Plain.{plain_export, plain_exports};
-ghost use Rattle.listings.specs.exports.ExportLines.{call_text, entry_text, export_line, exports_text, place_behind, places_text, type_text};
+ghost use Rattle.listings.specs.exports.ExportLines.{LinesPass, call_text, entry_text, export_line, exports_text, place_behind, places_text, type_text};
 
-use abi_base::{Limit, NoMemory};
+use abi_base::{Budget, NoMemory};
 use abi_types::{Call, Export, Graph, Index, Kind, Library, Place, View, push_label};
 use report::{kind_word, push_place};
 use std::alloc::{AllocError, Global};
 use std::fmt::Write;
-
-// How many bytes the output may have for each byte of the file.
-const BYTES_A_BYTE: usize = 8;
-
-// How many more bytes it may have, however small the file is.
-const BYTES_AT_LEAST: usize = 33_554_432;
 
 // Appends a comma and a place.
 #[tactic(auto, unfolding(crate::specs::exports::ExportLines::place_behind))]
@@ -104,42 +100,43 @@ fn push_line<Ix: Index>(
     text.push_str("\n")
 }
 
-// Appends the lines of exports. Fails where the text becomes longer than the limit.
+// Appends the lines of exports, and takes their bytes of the budget.
 fn push_lines<Ix: Index>(
     alloc: Global,
     text: &mut String,
     graph: &Graph<Ix>,
     exports: &[Export],
-    most: usize,
+    budget: &mut Budget,
 ) -> Result<(), NoMemory>
-    ensures { OnOk result (string_bytes text.new ≡ string_bytes text.old ++ flat_map (export_line graph.now) (plain_exports exports.now)) }
+    requires { budget.old.taken ≤ budget.old.most }
+    ensures lines { OnOk result (string_bytes text.new ≡ string_bytes text.old ++ flat_map (export_line graph.now) (plain_exports exports.now)) }
+    ensures within { OnOk result (budget.old.taken + length (flat_map (export_line graph.now) (plain_exports exports.now)) ≤ budget.old.most) }
+    ensures past { IfErr result (λ e. OnLimit e (LinesPass (flat_map (export_line graph.now) (plain_exports exports.now)) budget.old)) }
 {
     for export in exports {
+        let before = text.len();
         push_line(alloc, text, graph, export)?;
-        if most < text.len() {
-            return Err(NoMemory::Past(Limit::Listing));
-        }
+        budget.take(text.len() - before)?;
     }
     Ok(())
-}
-
-// The most bytes that the lines of a library may have.
-fn most_bytes(file: &[u8]) -> usize {
-    file.len()
-        .saturating_mul(BYTES_A_BYTE)
-        .saturating_add(BYTES_AT_LEAST)
 }
 
 /// The line of each export of a library, in the order of their symbols: the number of its symbol, its label, its kind, its size in
 /// bytes, and a description of its type: for a function the places of its arguments and of its result, for any other type its kind,
 /// or `untyped` where it has none. Exports can share the parameters of one function, so the lines can be far longer than the file:
-/// past the limit of bytes the answer is `NoMemory`.
+/// their bytes are taken of the budget, and the answer is `Past` only where they are more than it has.
 #[tactic(auto, unfolding(crate::specs::exports::ExportLines::exports_text))]
-pub fn export_lines<Ix: Index>(alloc: Global, library: &Library<Ix>) -> Result<String, NoMemory>
-    ensures { IfOk result (λ text. string_bytes text ≡ exports_text library.now) }
+pub fn export_lines<Ix: Index>(
+    alloc: Global,
+    library: &Library<Ix>,
+    budget: &mut Budget,
+) -> Result<String, NoMemory>
+    requires { budget.old.taken ≤ budget.old.most }
+    ensures lines { IfOk result (λ text. string_bytes text ≡ exports_text library.now) }
+    ensures within { OnOk result (budget.old.taken + length (exports_text library.now) ≤ budget.old.most) }
+    ensures past { IfErr result (λ e. OnLimit e (LinesPass (exports_text library.now) budget.old)) }
 {
     let mut text = String::new(alloc);
-    let most = most_bytes(library.file());
-    push_lines(alloc, &mut text, library.graph(), library.exports(), most)?;
+    push_lines(alloc, &mut text, library.graph(), library.exports(), budget)?;
     Ok(text)
 }
