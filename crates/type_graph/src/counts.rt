@@ -159,11 +159,7 @@ pub(crate) fn ask_parts(types: &JudgedTypes<'_, '_>, bytes: usize) -> Result<(),
 }
 
 // Takes the letters of the names of entries.
-fn take_names(
-    dwarf: &Dwarf,
-    entries: &[EntryNumber],
-    letters: &mut Budget,
-) -> Result<(), NoMemory>
+fn take_names(dwarf: &Dwarf, entries: &[EntryNumber], letters: &mut Budget) -> Result<(), NoMemory>
     requires inside { All (λ e. e < length dwarf.now.tree.entries) entries.now }
     requires sound { letters.old.taken ≤ letters.old.most }
     ensures letters { OnOk result (Takes letters.old letters.new (sum_by (letters_of dwarf.now) entries.now)) }
