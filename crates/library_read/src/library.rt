@@ -8,7 +8,7 @@ ghost use Rattle.elf.specs.symbols.Dynamic.{soname_of};
 ghost use Rattle.library_read.specs.Debug.{debug_of};
 ghost use Rattle.library_read.specs.Exports.{typed_exports_of};
 ghost use Rattle.library_read.specs.Faults.{library_fault};
-ghost use Rattle.library_read.specs.Limits.{IsOnTypes, LibraryPasses, PartsPass};
+ghost use Rattle.library_read.specs.Limits.{LibraryPasses, OnTypesPass, PartsPass};
 ghost use Rattle.library_read.specs.Libraries.{library_of, uncalled_graph_of};
 
 use crate::laws::readable_files_are_libraries;
@@ -71,7 +71,7 @@ fn library_with<'a, Ix: Index>(
     requires exports { plain_exports typed.exports ≡ typed_exports_of bytes.now }
     requires graph { typed.graph ≡ uncalled_graph_of bytes.now }
     ensures library { IfOk result (λ library. library ≡ library_of bytes.now) }
-    ensures past { IfErr result (λ e. OnLimit e IsOnTypes) }
+    ensures past { IfErr result (λ e. OnLimit e (OnTypesPass bytes.now)) }
 {
     readable_files_are_libraries();
     let Typed { exports, graph } = typed;

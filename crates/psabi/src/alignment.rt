@@ -1,6 +1,5 @@
 // Sizes and alignments of objects (psABI, section 3.1.2 "Data Representation").
-ghost use Rattle.std.specs.Prelude.{◌≡◌, ◌<◌, length, IfErr, IfOk};
-ghost use Rattle.abi_base.specs.declared.fault.NoMemory.TheVariants.{Allocation};
+ghost use Rattle.std.specs.Prelude.{◌≡◌, ◌<◌, length, IfOk};
 ghost use Rattle.abi_types.specs.Graphs.{view_at};
 ghost use Rattle.psabi.specs.Found.{IsRight};
 ghost use Rattle.psabi.specs.Alignment.{align_of};
@@ -104,8 +103,7 @@ pub fn align_with<Ix: Index>(graph: &Graph<Ix>, ix: Ix, found: &mut [Found]) -> 
 /// The alignments of all nodes' objects in bytes, each at its node's number. Computes each only once, so that a type which many others
 /// hold is not walked again for each of them.
 pub fn alignments<Ix: Index>(alloc: Global, graph: &Graph<Ix>) -> Result<List<u64>, NoMemory>
-    ensures aligns { IfOk result (λ aligns. aligns ≡ spec.alignments graph.now) }
-    ensures named { IfErr result (λ e. e ≡ Allocation) }
+    ensures { IfOk result (λ aligns. aligns ≡ spec.alignments graph.now) }
 {
     let mut room = room_for(alloc, graph.len())?;
     let found = room.as_mut_slice();

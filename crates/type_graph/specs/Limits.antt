@@ -6,7 +6,7 @@ use Rattle.abi_base.specs.Budgets.{allowed}
 use Rattle.dwarf_entries.specs.Debug.{PlainDwarf}
 use Rattle.type_reach.specs.ReachedList.{reached_of}
 use Rattle.type_reach.specs.TypeReferences.{references_count}
-use Rattle.type_graph.specs.Counts.{members_in_all, member_letters_in_all, enumerators_in_all, enumerator_letters_in_all, type_letters, names_held}
+use Rattle.type_graph.specs.Counts.{parts_in_all, members_in_all, member_letters_in_all, enumerators_in_all, enumerator_letters_in_all, type_letters, names_held}
 use Rattle.type_graph.specs.Nodes.{made_nodes}
 
 -- the letters of the tags and of the names of all types
@@ -56,6 +56,7 @@ pub record KeepTypeLimits (d : PlainDwarf) (found : List ℕ) (bytes : ℕ) : Ty
   pub types : length found ≤ allowed limit.Types bytes
   pub references : references_count d.tree found ≤ allowed limit.Members bytes
   pub members : members_in_all d found ≤ allowed limit.Members bytes
+  pub parts : parts_in_all d found ≤ allowed limit.Members bytes
   pub enumerators : enumerators_in_all d found ≤ allowed limit.Enumerators bytes
   pub enumerator_letters : enumerator_letters_in_all d found ≤ allowed limit.Letters bytes
   pub member_letters : member_letters_in_all d found ≤ allowed limit.Letters bytes

@@ -11,7 +11,7 @@ ghost use Rattle.type_reach.specs.TypeReferences.{AreTypeReferences};
 ghost use Rattle.type_reach.specs.Summaries.{AreSummaries};
 ghost use Rattle.type_reach.specs.PeeledCores.{StandsForNone};
 ghost use Rattle.type_reach.specs.Flat.{flat_of};
-ghost use Rattle.type_graph.specs.Counts.{params_of, members_read, members_held, members_in_all, member_letters, member_letters_held, member_letters_in_all};
+ghost use Rattle.type_graph.specs.Counts.{params_of, parts_in_all, members_read, members_held, members_in_all, member_letters, member_letters_held, member_letters_in_all};
 ghost use Rattle.type_graph.specs.Counts.{letters_of, enumerators_held, enumerators_in_all, enumerator_letters_held, enumerator_letters_in_all};
 ghost use Rattle.type_graph.specs.Limits.{EnumeratorsPass, PartsPass};
 ghost use Rattle.type_graph.specs.Spending.{PassesBy, PassesEither, Takes};
@@ -143,10 +143,12 @@ pub(crate) fn ask_parts(types: &JudgedTypes<'_, '_>, bytes: usize) -> Result<(),
     requires leads { AreTypeReferences types.now.dwarf.now.tree types.now.found.now types.now.leads.now }
     requires summaries { AreSummaries types.now.dwarf.now types.now.found.now types.now.summaries.now }
     requires small { bytes < 2 ^ 38 }
-    ensures parts { OnOk result (members_in_all types.now.dwarf.now types.now.found.now ≤ allowed Members bytes) }
+    ensures parts { OnOk result (parts_in_all types.now.dwarf.now types.now.found.now ≤ allowed Members bytes) }
+    ensures members { OnOk result (members_in_all types.now.dwarf.now types.now.found.now ≤ allowed Members bytes) }
     ensures letters { OnOk result (member_letters_in_all types.now.dwarf.now types.now.found.now ≤ allowed Letters bytes) }
     ensures past { IfErr result (λ e. OnLimit e (PartsPass types.now.dwarf.now types.now.found.now bytes)) }
 {
+    laws_of_types();
     let mut budget = Budget::of(Limit::Members, bytes);
     let mut letters = Budget::of(Limit::Letters, bytes);
     'found: for number in 0..types.found.len() {
@@ -157,11 +159,7 @@ pub(crate) fn ask_parts(types: &JudgedTypes<'_, '_>, bytes: usize) -> Result<(),
 }
 
 // Takes the letters of the names of entries.
-fn take_names(
-    dwarf: &Dwarf,
-    entries: &[EntryNumber],
-    letters: &mut Budget,
-) -> Result<(), NoMemory>
+fn take_names(dwarf: &Dwarf, entries: &[EntryNumber], letters: &mut Budget) -> Result<(), NoMemory>
     requires inside { All (λ e. e < length dwarf.now.tree.entries) entries.now }
     requires sound { letters.old.taken ≤ letters.old.most }
     ensures letters { OnOk result (Takes letters.old letters.new (sum_by (letters_of dwarf.now) entries.now)) }

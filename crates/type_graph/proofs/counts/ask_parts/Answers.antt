@@ -1,9 +1,10 @@
-use Rattle.std.proofs.Common.{refl, inl, inr}
+use Rattle.std.proofs.Common.{refl, inl, inr, arith}
 use Rattle.std.proofs.lemmas.Result.{err_from_is_err_and}
 use Rattle.abi_base.proofs.lemmas.Outcomes.{on_limit_weaker}
 use Rattle.abi_base.specs.declared.limit.Limit.TheVariants.{Letters, Members}
 use Rattle.type_graph.specs.Counts.{members_held, member_letters_held}
-use Rattle.type_graph.proofs.lemmas.Spending.{spent-next, spent-passes}
+use Rattle.type_graph.proofs.CountLemmas.{parts-le}
+use Rattle.type_graph.proofs.lemmas.Spending.{spent-all, spent-next, spent-passes}
 use Rattle.type_graph.proofs.counts.ask_parts.Goals as goal
 
 pub returns-in_err-take_parts-clause-past : goal.returns-in_err-take_parts-clause-past
@@ -29,3 +30,16 @@ found-preserved c =
       parts = spent-next Members c.args.bytes (members_held d) found c.found.number c.at-e.result _ c.found.budget c.take_parts.new.budget was.parts c.at-e.ensures after.parts refl;
       letters = spent-next Letters c.args.bytes (member_letters_held d) found c.found.number c.at-e.result _ c.found.letters c.take_parts.new.letters was.letters c.at-e.ensures after.letters refl;
     }
+
+pub returns-clause-members : goal.returns-clause-members
+returns-clause-members c =
+    let d = c.args.types.now.dwarf.now in
+    let found = c.args.types.now.found.now in
+    spent-all Members c.args.bytes (members_held d) found c.found.number c.found.budget c.found.invariant.parts (omega (arith, c.found-test.false, c.len-number-end.ensures))
+
+pub returns-clause-parts : goal.returns-clause-parts
+returns-clause-parts c =
+    let d = c.args.types.now.dwarf.now in
+    let found = c.args.types.now.found.now in
+    let read = spent-all Members c.args.bytes (members_held d) found c.found.number c.found.budget c.found.invariant.parts (omega (arith, c.found-test.false, c.len-number-end.ensures)) in
+    omega (arith, read, parts-le d (c.laws_of_types.ensures d) found c.requires.closed c.requires.summaries.shallow)

@@ -49,7 +49,8 @@ returns-clause-within g c =
     subst (λ (found : List ℕ). KeepTypeLimits c.args.dwarf.now found c.args.bytes) c.in_ok-found.ensures.list (record {
       types = omega (arith, c.in_ok-ask_types.ensures.within, c.len.ensures);
       references = c.in_ok-leads.ensures.within;
-      members = c.in_ok-ask_parts.ensures.parts;
+      members = c.in_ok-ask_parts.ensures.members;
+      parts = c.in_ok-ask_parts.ensures.parts;
       enumerators = c.in_ok-ask_enumerators.ensures.parts;
       enumerator_letters = c.in_ok-ask_enumerators.ensures.letters;
       member_letters = c.in_ok-ask_parts.ensures.letters;
