@@ -1,33 +1,18 @@
--- When a comparison passes a limit.
+-- When a report passes its limit.
 use Rattle.std.specs.Prelude.{◌≡◌, ◌<◌, ◌+◌, ◌-◌, ◌^◌, ◌⊎◌, ℕ, List, length, min}
 use Rattle.std.specs.List.{sum_by}
 use Rattle.sha2.specs.Sha256.{sha256}
-use Rattle.abi_base.specs.declared.limit.Limit.{Limit}
 use Rattle.abi_base.specs.declared.limit.Limit.TheVariants as limit
 use Rattle.abi_base.specs.Budgets.{BudgetState, allowed, fresh}
-use Rattle.type_classes.specs.Classes.{PlainClasses}
 use Rattle.pair_rules.specs.declared.rules.Broken.{Broken}
 use Rattle.pair_rules.specs.Steps.{Task}
 use Rattle.pair_explorer.specs.declared.visits.Visit.{Visit}
-use Rattle.pair_explorer.specs.Limits.{ExplorationPasses}
 use Rattle.report.specs.declared.row.Row.{Row}
 use Rattle.report.specs.Values.{text_of}
 use Rattle.cert_check.specs.Compatible.{Sides, task_of}
-use Rattle.pair_compare.specs.Explored.{scope_of}
 use Rattle.pair_compare.specs.reports.Findings.{Finding, detail_at}
 use Rattle.pair_compare.specs.reports.Reports.{IsRightReport}
-use Rattle.pair_compare.specs.reports.TypeFindings.{IsCoarse, IsExplored, finding_of}
-
--- ---- types
-
--- over the classes of alike nodes, more is reachable than the limit allows
-pub record ExploresMore (s : Sides) (l : Limit) : Type 0 where
-  pub old : PlainClasses
-  pub new : PlainClasses
-  pub coarse : IsCoarse (scope_of s old new)
-  pub passes : ExplorationPasses (scope_of s old new) l
-
--- ---- the report
+use Rattle.pair_compare.specs.reports.TypeFindings.{IsExplored, finding_of}
 
 -- how many bytes the rows of a report on two files may have
 abbrev pub report_units : List ℕ → List ℕ → ℕ
@@ -73,12 +58,3 @@ pub record ReportPasses (s : Sides) : Type 0 where
   pub old_is : s.old.digest ≡ sha256 old
   pub new_is : s.new.digest ≡ sha256 new
   pub more : RowsCountMore s (allowed limit.Report (report_units old new)) ⊎ DetailsCountMore s (allowed limit.Report (report_units old new))
-
--- ---- a comparison
-
-abbrev pub ComparisonPasses : Sides → Limit → Type 0
-ComparisonPasses s limit.Pairs = ExploresMore s limit.Pairs
-ComparisonPasses s limit.PairParts = ExploresMore s limit.PairParts
-ComparisonPasses s limit.Breaks = ExploresMore s limit.Breaks
-ComparisonPasses s limit.Report = ReportPasses s
-ComparisonPasses s others = ⊥
