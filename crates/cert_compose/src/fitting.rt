@@ -6,43 +6,34 @@ ghost use Rattle.cert_compose.specs.Joins.{first_of};
 use crate::certified_chain::CertifiedChain;
 use crate::joins::{lines_from, middles_from};
 use crate::types::{find, view_of};
-use abi_base::{Limit, NoMemory, taken};
+use abi_base::{Budget, Limit, NoMemory};
 use abi_types::{Library, NewIx, OldIx, View, Way};
 use cert_text::pairs_of;
-use pair_rules::PartBudget;
-
-// How many lines may be joined for each pair line of both certificates. In certificates of libraries that were built from one source
-// each line joins one other.
-const JOINS_A_LINE: usize = 16;
-
-// How many more may be joined, however few lines there are.
-const JOINS_AT_LEAST: usize = 2_097_152;
+use pair_rules::{part_budget, take_parts};
 
 // What may still be joined and compared.
 #[derive(Drop)]
 struct Room {
-    joins: usize,
-    parts: PartBudget,
+    joins: Budget,
+    parts: Budget,
 }
 
 impl Room {
-    // The room for the joins of two certificates.
+    // The room for the joins of two certificates. In certificates of libraries that were built from one source each line joins one
+    // other.
     fn beside(ground: &CertifiedChain) -> Room {
         let lines = pairs_of(ground.one)
             .len()
             .saturating_add(pairs_of(ground.other).len());
         Room {
-            joins: lines
-                .saturating_mul(JOINS_A_LINE)
-                .saturating_add(JOINS_AT_LEAST),
-            parts: PartBudget::between(ground.first.graph(), ground.last.graph()),
+            joins: Budget::of_many(Limit::PairLines, lines),
+            parts: part_budget(ground.first.graph(), ground.last.graph()),
         }
     }
 
     // Takes one look at a line.
     fn take_join(&mut self) -> Result<(), NoMemory> {
-        self.joins = taken(Limit::PairLines, self.joins, 1)?;
-        Ok(())
+        self.joins.take(1)
     }
 
     // Takes the comparison of a first type with the last type of an entry.
@@ -57,7 +48,7 @@ impl Room {
         };
         match find(last, entry) {
             None => Ok(()),
-            Some(new) => self.parts.take(old, view_of(last, new)),
+            Some(new) => take_parts(&mut self.parts, old, view_of(last, new)),
         }
     }
 }

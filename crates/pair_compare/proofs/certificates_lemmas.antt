@@ -11,3 +11,4 @@ pub mod BindLines
 pub mod Accepting
 pub mod ScopeLemmas
 pub mod CertLemmas
+pub mod Weights

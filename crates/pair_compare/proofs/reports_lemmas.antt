@@ -8,6 +8,7 @@ pub mod OneReport
 pub mod RangeLemmas
 pub mod ReadableLemmas
 pub mod Right
+pub mod Rooms
 pub mod RootLemmas
 pub mod RowLemmas
 pub mod SameRows

@@ -1,9 +1,10 @@
 -- When the result of a comparison of two libraries is right.
-use Rattle.std.specs.Prelude.{◌≡◌, List, []}
+use Rattle.std.specs.Prelude.{◌≡◌, ◌≤◌, List, []}
 use Rattle.report.specs.declared.row.Row.{Row}
 use Rattle.cert_text.specs.Certs.{PlainCert}
 use Rattle.cert_check.specs.Accepted.{IsAccepted}
 use Rattle.cert_check.specs.Compatible.{Sides, IsCompatible}
+use Rattle.cert_check.specs.Fitting.{lines_allowed, lines_weight}
 use Rattle.pair_compare.specs.certificates.Certificates.{IsCertificateOf}
 use Rattle.pair_compare.specs.reports.Reports.{IsRightReport}
 use Rattle.pair_compare.specs.declared.comparing.Comparison.{Comparison}
@@ -24,3 +25,8 @@ pub record IsRefuted (s : Sides) (rows : List Row) : Type 0 where
 abbrev pub IsRight : Sides → Comparison → Type 0
 IsRight s (Compatible cert) = IsProved s cert
 IsRight s (Broken rows) = IsRefuted s rows
+
+-- The checker has room for the certificate: its pair lines count no more than it allows.
+abbrev pub IsFitting : Sides → Comparison → Type 0
+IsFitting s (Compatible cert) = lines_weight s cert.pairs ≤ lines_allowed s
+IsFitting s (Broken rows) = Unit {0}

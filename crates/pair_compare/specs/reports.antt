@@ -5,3 +5,4 @@ pub mod ExportRows
 pub mod TypeFindings
 pub mod Keys
 pub mod Readable
+pub mod Rooms

@@ -1,5 +1,7 @@
 // The comparison of two libraries.
-ghost use Rattle.std.specs.Prelude.{◌≡◌, ◌≤◌, ◌+◌, IfOk};
+ghost use Rattle.std.specs.Prelude.{◌≡◌, ◌≤◌, ◌+◌, IfOk, IfErr};
+ghost use Rattle.abi_base.specs.declared.limit.Limit.TheVariants.{Report};
+ghost use Rattle.abi_base.specs.Outcome.{OnLimit};
 ghost use Rattle.pair_explorer.specs.GraphPairs.{scope_of};
 ghost use Rattle.cert_check.specs.Compatible.{Sides, sides, typed_roots};
 ghost use Rattle.pair_compare.specs.BoundPair.{IsBinding, sides_of};
@@ -7,7 +9,8 @@ ghost use Rattle.pair_compare.specs.Compared.{IsComparison, sides_in};
 ghost use Rattle.pair_compare.specs.Explored.{most_steps};
 ghost use Rattle.pair_compare.specs.Explored as explored_spec;
 ghost use Rattle.pair_compare.specs.Marking.{AreMarksOf};
-ghost use Rattle.pair_compare.specs.Judged.{IsRight};
+ghost use Rattle.pair_compare.specs.Judged.{IsFitting, IsRight};
+ghost use Rattle.pair_compare.specs.Limits.{ReportPasses};
 ghost use Rattle.pair_compare.specs.reports.TypeFindings.{IsCoarse};
 
 use crate::bound_pair::BoundPair;
@@ -157,7 +160,9 @@ pub enum Comparison {
 /// Whether the new library of a comparison may replace the old one: the certificate if it may, else the rows of the report.
 pub fn verdict_of(alloc: Global, compared: &Compared) -> Result<Comparison, NoMemory>
     requires { IsComparison compared.now }
-    ensures { IfOk result (IsRight (sides_in compared.now)) }
+    ensures right { IfOk result (IsRight (sides_in compared.now)) }
+    ensures fits { IfOk result (IsFitting (sides_in compared.now)) }
+    ensures past { IfErr result (λ e. OnLimit e (λ l. (l ≡ Report) × ReportPasses (sides_in compared.now))) }
 {
     no_break_is_compatible();
     let rows = report_rows(alloc, compared.pair, compared.explored)?;
@@ -182,7 +187,7 @@ pub struct Verdict;
 impl View for Verdict {
     type Shown = Comparison;
 
-    ghost shows = { λ v s shown. IsRight s shown };
+    ghost shows = { λ v s shown. IsRight s shown × IsFitting s shown };
 
     fn view(&self, alloc: Global, compared: &Compared) -> Result<Comparison, NoMemory> {
         verdict_of(alloc, compared)
@@ -190,7 +195,7 @@ impl View for Verdict {
 }
 
 /// Whether the new library may replace the old one in all that is unmarked: the certificate if it may, else the rows of the report.
-/// Pass `unmarked` to mark nothing. Each comparison of two types is a step; even where memory runs out, there are at most as many
+/// Pass `unmarked` to mark nothing. The checker has room for the certificate. Each comparison of two types is a step; even where memory runs out, there are at most as many
 /// steps as pairs of an old and a new type at two ways.
 pub fn compare<L: Ledger>(
     alloc: Global,
@@ -201,6 +206,7 @@ pub fn compare<L: Ledger>(
 ) -> Result<Comparison, NoMemory>
     requires { AreMarksOf old.now marks.now }
     ensures right { IfOk result (IsRight (sides old.now new.now marks.now)) }
+    ensures fits { IfOk result (IsFitting (sides old.now new.now marks.now)) }
     ensures bound { steps.new ≤ steps.old + most_steps (sides old.now new.now marks.now) }
 {
     compare_by(alloc, old, new, marks, &Verdict, steps)

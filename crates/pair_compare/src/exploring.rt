@@ -1,7 +1,10 @@
 // The exploration of the types of two libraries.
-ghost use Rattle.std.specs.Prelude.{◌≡◌, ◌≤◌, ◌+◌, length, IfOk};
+ghost use Rattle.std.specs.Prelude.{◌≡◌, ◌≤◌, ◌+◌, length, map, IfOk, IfErr};
+ghost use Rattle.abi_base.specs.Outcome.{OnLimit};
 ghost use Rattle.pair_explorer.specs.Explorations.{IsExploration};
 ghost use Rattle.pair_explorer.specs.ByClass.{IsSound};
+ghost use Rattle.pair_explorer.specs.Limits.{AreWithin, ExplorationPasses};
+ghost use Rattle.pair_explorer.specs.Visits.{seen};
 ghost use Rattle.pair_compare.specs.BoundPair.{IsBinding, sides_of};
 ghost use Rattle.pair_compare.specs.Explored.{most_steps, scope_of};
 ghost use Rattle.pair_compare.specs.Marking.{AreMarksOf};
@@ -33,6 +36,8 @@ pub fn explore_types<L: Ledger>(
     ensures explored { IfOk result (λ e. IsExploration (scope_of (sides_of pair.now) old_classes.now new_classes.now) e.visits e.breaks) }
     ensures cost { IfOk result (λ e. steps.new ≤ steps.old + length e.visits) }
     ensures bound { steps.new ≤ steps.old + most_steps (sides_of pair.now) }
+    ensures within { IfOk result (λ e. AreWithin (scope_of (sides_of pair.now) old_classes.now new_classes.now) (map seen e.visits)) }
+    ensures past { IfErr result (λ e. OnLimit e (ExplorationPasses (scope_of (sides_of pair.now) old_classes.now new_classes.now))) }
 {
     typed_pairs_can_be_explored();
     old_classes.known();

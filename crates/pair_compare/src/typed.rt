@@ -1,5 +1,6 @@
 // Where the comparison of the types of two libraries begins.
-ghost use Rattle.std.specs.Prelude.{◌≡◌, ◌<◌, length, false, Some, None, IfOk, MatchOption, slice_index_or};
+ghost use Rattle.std.specs.Prelude.{◌≡◌, ◌<◌, length, false, Some, None, IfOk, MatchOption, slice_index_or, IfErr};
+ghost use Rattle.abi_base.specs.declared.fault.NoMemory.TheVariants.{Allocation};
 ghost use Rattle.abi_types.specs.Plain.{plain_export};
 ghost use Rattle.cert_check.specs.Compatible.{root_to, typed_root, typed_roots};
 ghost use Rattle.pair_compare.specs.BoundPair.{IsBinding, partner, sides_of};
@@ -81,7 +82,8 @@ fn root_at(ground: &BoundPair, k: usize) -> Option<Root>
 /// The types of each compared old export and of the new one to which it binds, where both have a type, in order of the old exports.
 pub fn roots(alloc: Global, pair: &BoundPair) -> Result<Vec<Root>, NoMemory>
     requires { IsBinding pair.now }
-    ensures { IfOk result (λ roots. roots.items ≡ typed_roots (sides_of pair.now)) }
+    ensures roots { IfOk result (λ roots. roots.items ≡ typed_roots (sides_of pair.now)) }
+    ensures named { IfErr result (λ e. e ≡ Allocation) }
 {
     let count = pair.old.exports().len();
     let mut roots = Vec::new(alloc);

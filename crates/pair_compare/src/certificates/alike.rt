@@ -1,6 +1,7 @@
 // The alike lines of a certificate.
-ghost use Rattle.std.specs.Prelude.{◌≡◌, ◌<◌, ◌^◌, length, All, IfOk, IfSome};
+ghost use Rattle.std.specs.Prelude.{◌≡◌, ◌<◌, ◌^◌, length, All, IfOk, IfSome, IfErr};
 ghost use Rattle.std.specs.List.Sorted.{IsPermutation, IsSorted};
+ghost use Rattle.abi_base.specs.declared.fault.NoMemory.TheVariants.{Allocation};
 ghost use Rattle.type_classes.specs.Classes.{AreCoarsest};
 ghost use Rattle.cert_text.specs.Certs.{IsBelow, first_cmp};
 ghost use Rattle.pair_compare.specs.certificates.Lines.{AreAlikeLines};
@@ -43,6 +44,7 @@ fn lines_of<Ix: Index>(
     requires { classes.now.nodes ≡ graph.now }
     ensures lines { IfOk result (λ lines. lines ≡ alike_below classes.now (length graph.now)) }
     ensures numbers { IfOk result (All (IsBelow (2 ^ 64))) }
+    ensures named { IfErr result (λ e. e ≡ Allocation) }
 {
     lines_stand_in_the_order_of_their_numbers();
     let mut lines = List::new(alloc);
@@ -70,6 +72,7 @@ pub fn alike_lines<Ix: Index>(
     requires coarsest { AreCoarsest classes.now }
     ensures lines { IfOk result (AreAlikeLines graph.now) }
     ensures numbers { IfOk result (All (IsBelow (2 ^ 64))) }
+    ensures named { IfErr result (λ e. e ≡ Allocation) }
 {
     classes_stand_by_their_least_entries();
     lines_stand_in_the_order_of_their_numbers();

@@ -1,5 +1,6 @@
 // The bind lines of a certificate.
-ghost use Rattle.std.specs.Prelude.{◌≡◌, ◌<◌, false, length, IfOk, slice_index_or};
+ghost use Rattle.std.specs.Prelude.{◌≡◌, ◌<◌, false, length, IfOk, slice_index_or, IfErr};
+ghost use Rattle.abi_base.specs.declared.fault.NoMemory.TheVariants.{Allocation};
 ghost use Rattle.cert_check.specs.Compatible.{sides};
 ghost use Rattle.pair_compare.specs.certificates.Lines as spec;
 
@@ -47,7 +48,8 @@ pub fn bind_lines(
     new: &Library<NewIx>,
     marks: &Marks,
 ) -> Result<List<(u32, u32)>, NoMemory>
-    ensures { IfOk result (λ lines. lines ≡ spec.bind_lines (sides old.now new.now marks.now)) }
+    ensures lines { IfOk result (λ lines. lines ≡ spec.bind_lines (sides old.now new.now marks.now)) }
+    ensures named { IfErr result (λ e. e ≡ Allocation) }
 {
     lines_stand_in_the_order_of_their_numbers();
     let mut lines = List::new(alloc);

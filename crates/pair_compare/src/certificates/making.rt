@@ -1,7 +1,13 @@
 // The certificate of two libraries.
-ghost use Rattle.std.specs.Prelude.{◌≡◌, ◌<◌, ◌+◌, ◌^◌, length, IfOk};
+ghost use Rattle.std.specs.Prelude.{◌≡◌, ◌<◌, ◌+◌, ◌^◌, length, map, IfOk, IfErr};
+ghost use Rattle.abi_base.specs.declared.fault.NoMemory.TheVariants.{Allocation};
+ghost use Rattle.std.specs.List.{sum_by};
+ghost use Rattle.pair_explorer.specs.Limits.{weight_at};
+ghost use Rattle.pair_explorer.specs.Visits.{seen};
 ghost use Rattle.cert_text.specs.Certs.{IsDigest};
 ghost use Rattle.cert_check.specs.Accepted.{asked, IsAccepted};
+ghost use Rattle.cert_check.specs.Compatible.{task_of};
+ghost use Rattle.cert_check.specs.Fitting.{lines_weight};
 ghost use Rattle.pair_compare.specs.BoundPair.{sides_of};
 ghost use Rattle.pair_compare.specs.certificates.Certificates.{IsCertificateOf};
 ghost use Rattle.pair_compare.specs.certificates.Searches.{AreBound, IsUnbroken};
@@ -56,6 +62,8 @@ pub fn make_cert(
     requires types { IsUnbroken (sides_of pair.now) old_classes.now new_classes.now visits.now }
     ensures certificate { IfOk result (IsCertificateOf (sides_of pair.now)) }
     ensures accepted { IfOk result (λ cert. IsAccepted (asked pair.now.old.now pair.now.new.now pair.now.marks.now cert)) }
+    ensures count { IfOk result (λ cert. lines_weight (sides_of pair.now) cert.pairs ≡ sum_by (weight_at (task_of (sides_of pair.now))) (map seen visits.now)) }
+    ensures named { IfErr result (λ e. e ≡ Allocation) }
 {
     the_certificate_of_the_compatible_is_accepted();
     visits_are_pair_lines();

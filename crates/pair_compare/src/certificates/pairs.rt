@@ -1,6 +1,7 @@
 // The pair lines of a certificate: which types are reached in place of which.
-ghost use Rattle.std.specs.Prelude.{◌≡◌, ◌^◌, List as Sequence, map, All, IfOk};
+ghost use Rattle.std.specs.Prelude.{◌≡◌, ◌^◌, List as Sequence, map, All, IfOk, IfErr};
 ghost use Rattle.std.specs.List.Sorted.{IsPermutation, IsSorted};
+ghost use Rattle.abi_base.specs.declared.fault.NoMemory.TheVariants.{Allocation};
 ghost use Rattle.type_classes.specs.Classes.{PlainClasses};
 ghost use Rattle.pair_explorer.specs.declared.visits.Visit.{Visit};
 ghost use Rattle.cert_text.specs.Certs.{PairLine, IsPairBelow, pair_cmp};
@@ -37,6 +38,7 @@ fn lines_of(
     requires { AreInside old.now new.now visits.now }
     ensures lines { IfOk result (λ lines. lines.items ≡ map (pair_line old.now new.now) visits.now) }
     ensures numbers { IfOk result (λ lines. All (IsPairBelow (2 ^ 64)) lines.items) }
+    ensures named { IfErr result (λ e. e ≡ Allocation) }
 {
     let mut lines = Vec::new(alloc);
     for number in 0..visits.len() {
@@ -66,6 +68,7 @@ pub fn pair_lines(
     ensures moved { IfOk result (IsPermutation (map (pair_line old.now new.now) visits.now)) }
     ensures sorted { IfOk result (IsSorted pair_cmp) }
     ensures numbers { IfOk result (All (IsPairBelow (2 ^ 64))) }
+    ensures named { IfErr result (λ e. e ≡ Allocation) }
 {
     let mut lines = lines_of(alloc, old, new, visits)?;
     sort(&mut lines);

@@ -5,8 +5,7 @@ pub mod laws;
 mod lookups;
 mod paths;
 mod right_report;
-mod room;
-mod row_list;
+mod rows;
 mod type_findings;
 
 pub use paths::{label_at, steps_text};

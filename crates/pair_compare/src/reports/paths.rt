@@ -1,5 +1,6 @@
 // The texts of paths.
-ghost use Rattle.std.specs.Prelude.{◌≡◌, ◌<◌, ◌++◌, length, IfOk, OnOk, string_bytes, unwrap_or};
+ghost use Rattle.std.specs.Prelude.{◌≡◌, ◌<◌, ◌++◌, length, IfOk, OnOk, string_bytes, unwrap_or, IfErr};
+ghost use Rattle.abi_base.specs.declared.fault.NoMemory.TheVariants.{Allocation};
 ghost use Rattle.abi_types.specs.Graphs.{part_at, to_of};
 ghost use Rattle.abi_types.specs.Plain.{plain_export};
 ghost use Rattle.abi_types.specs.Shown.{label};
@@ -17,7 +18,8 @@ use std::alloc::{AllocError, Global};
 
 // The label of an export.
 fn label_of(alloc: Global, export: &Export) -> Result<String, NoMemory>
-    ensures { IfOk result (λ text. string_bytes text ≡ label (plain_export export.now)) }
+    ensures label { IfOk result (λ text. string_bytes text ≡ label (plain_export export.now)) }
+    ensures named { IfErr result (λ e. e ≡ Allocation) }
 {
     let mut text = String::new(alloc);
     push_label(alloc, &mut text, export)?;
@@ -26,7 +28,8 @@ fn label_of(alloc: Global, export: &Export) -> Result<String, NoMemory>
 
 /// The label of the old export at a position.
 pub fn label_at(alloc: Global, library: &Library<OldIx>, export: u32) -> Result<String, NoMemory>
-    ensures { IfOk result (λ text. string_bytes text ≡ path_texts.label_at library.now export) }
+    ensures label { IfOk result (λ text. string_bytes text ≡ path_texts.label_at library.now export) }
+    ensures named { IfErr result (λ e. e ≡ Allocation) }
 {
     match find_at(library, export as usize) {
         None => Ok(String::new(alloc)),
@@ -90,7 +93,8 @@ pub fn steps_text(
     route: &Route,
 ) -> Result<String, NoMemory>
     requires { IsWalk library.now (routes.path_of route.now.export route.now.parts) }
-    ensures { IfOk result (λ text. string_bytes text ≡ path_texts.steps_text library.now (routes.path_of route.now.export route.now.parts)) }
+    ensures text { IfOk result (λ text. string_bytes text ≡ path_texts.steps_text library.now (routes.path_of route.now.export route.now.parts)) }
+    ensures named { IfErr result (λ e. e ≡ Allocation) }
 {
     let graph = library.graph();
     let parts = route.parts.as_slice();

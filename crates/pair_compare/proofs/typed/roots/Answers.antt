@@ -19,9 +19,9 @@ exports-preserved c =
       | in_default w ↦ rw (w.roots-is, c.exports.invariant) (sym (given_none (typed_root s) c.exports.k (sym c.root_at.ensures ∙ w.in_default.is)))
     ]
 
-pub returns : goal.returns
+pub returns-clause-roots : goal.returns-clause-roots
 unfolding typed_roots
-returns c =
+returns-clause-roots c =
     let s = sides_of c.args.pair.now in
     let long : length c.exports-count.result.now ≡ length c.args.pair.now.old.now.exports =
     sym (length-map c.exports-count.result.now plain_export) ∙ ap (λ (es : List PlainExport). length es) c.exports-count.ensures in

@@ -22,6 +22,6 @@ returns c =
     let route = c.in_ok-route.route in
     let at = sym c.in-Some.ensures in
     let same =
-    c.parents_spell_paths.ensures.one visits c.args.led.now.number (path_of route.export route.parts) (path_at visits c.args.led.now.number) c.in_ok-route.ensures (c.parents_spell_paths.ensures.along visits c.args.led.now.number c.in-Some._visit c.requires.earlier at) in
+    c.parents_spell_paths.ensures.one visits c.args.led.now.number (path_of route.export route.parts) (path_at visits c.args.led.now.number) c.in_ok-route.ensures.along (c.parents_spell_paths.ensures.along visits c.args.led.now.number c.in-Some._visit c.requires.earlier at) in
     subst (λ (ns : List Note). OnOk c.push_others.result (c.push_others.new.notes ≡ c.args.notes.now ++ ns))
     (row_there l visits c.args.led.now.number route.export route.parts c.as_slice.result.now c.args.led.now.exports.now c.in-Some._visit at same (c.as_slice.ensures ∙ c.in_ok-text.ensures)) c.push_others.ensures

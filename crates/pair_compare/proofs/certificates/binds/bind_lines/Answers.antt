@@ -9,7 +9,7 @@ loop-k-init c = c.new-lines.ensures ∙ sym (binds-zero (sides c.args.old.now c.
 
 pub loop-k-preserved : goal.loop-k-preserved
 loop-k-preserved c =
-    binds-more c.lines_stand_in_the_order_of_their_numbers.ensures (sides c.args.old.now c.args.new.now c.args.marks.now) c.loop-k.k c.bind_line-line.result c.loop-k.lines c.push_some.new.list c.loop-k.invariant c.bind_line-line.ensures c.in_ok-push_some.ensures
+    binds-more c.lines_stand_in_the_order_of_their_numbers.ensures (sides c.args.old.now c.args.new.now c.args.marks.now) c.loop-k.k c.bind_line-line.result c.loop-k.lines c.push_some.new.list c.loop-k.invariant c.bind_line-line.ensures c.in_ok-push_some.ensures.appended
 
-pub returns : goal.returns
-returns c = binds-all (sides c.args.old.now c.args.new.now c.args.marks.now) c.loop-k.k c.loop-k.lines (omega arith) c.loop-k.invariant
+pub returns-clause-lines : goal.returns-clause-lines
+returns-clause-lines c = binds-all (sides c.args.old.now c.args.new.now c.args.marks.now) c.loop-k.k c.loop-k.lines (omega arith) c.loop-k.invariant

@@ -7,6 +7,7 @@ use Rattle.pair_explorer.specs.Scopes.{Scope}
 use Rattle.pair_compare.specs.certificates.Certificates.{AreLibraries, IsCertificateOf}
 use Rattle.pair_compare.specs.certificates.Searches.{scope_of}
 use Rattle.pair_compare.proofs.certificates_lemmas.CertLemmas.{made_is, libraries_of, marked_alike, compatible_from, cert_kept}
+use Rattle.pair_compare.proofs.certificates_lemmas.Weights.{lines_count}
 use Rattle.pair_compare.proofs.certificates.making.make_cert.Goals as goal
 
 pub invariant_of-result : goal.invariant_of-result
@@ -27,7 +28,7 @@ invariant_of-result c =
       old_digest = c.is_digest-old_digest.ensures.value ∙ c.digest.ensures;
       new_digest = c.is_digest-new_digest.ensures.value ∙ c.digest_beside.ensures;
       rules_digest = c.is_digest-rules_digest.ensures.value;
-      binds = c.in_ok-binds.ensures;
+      binds = c.in_ok-binds.ensures.lines;
       alike_old = c.in_ok-alike_old.ensures.lines;
       alike_new = c.in_ok-alike_new.ensures.lines;
       moved = c.in_ok-pairs.ensures.moved;
@@ -58,7 +59,7 @@ returns-clause-certificate c =
       old_digest = c.is_digest-old_digest.ensures.value ∙ c.digest.ensures;
       new_digest = c.is_digest-new_digest.ensures.value ∙ c.digest_beside.ensures;
       rules_digest = c.is_digest-rules_digest.ensures.value;
-      binds = c.in_ok-binds.ensures;
+      binds = c.in_ok-binds.ensures.lines;
       alike_old = c.in_ok-alike_old.ensures.lines;
       alike_new = c.in_ok-alike_new.ensures.lines;
       moved = c.in_ok-pairs.ensures.moved;
@@ -84,7 +85,7 @@ returns-clause-accepted c =
       old_digest = c.is_digest-old_digest.ensures.value ∙ c.digest.ensures;
       new_digest = c.is_digest-new_digest.ensures.value ∙ c.digest_beside.ensures;
       rules_digest = c.is_digest-rules_digest.ensures.value;
-      binds = c.in_ok-binds.ensures;
+      binds = c.in_ok-binds.ensures.lines;
       alike_old = c.in_ok-alike_old.ensures.lines;
       alike_new = c.in_ok-alike_new.ensures.lines;
       moved = c.in_ok-pairs.ensures.moved;
@@ -95,3 +96,9 @@ returns-clause-accepted c =
     let types = (c.no_break_is_compatible.ensures scope c.args.visits.now [] (record { scope = c.requires.types.scope; old = c.known-5.ensures; new = c.known-6.ensures }) c.requires.types.exploration).0 refl in
     c.the_certificate_of_the_compatible_is_accepted.ensures s cert libraries (marked_alike s c.args.old_classes.now c.args.new_classes.now c.args.visits.now c.requires.types)
     (compatible_from s c.args.old_classes.now c.args.new_classes.now c.args.visits.now c.requires.types c.requires.exports types) is
+
+pub returns-clause-count : goal.returns-clause-count
+returns-clause-count c =
+    let s : Sides = sides_of c.args.pair.now in
+    lines_count s c.args.visits.now c.in_ok-pairs.pairs (rw (c.graph-old_graph.ensures) at c.known-3.ensures) (rw (c.graph-new_graph.ensures) at c.known-4.ensures) c.requires.types.exploration.inside
+    (rw (c.graph-old_graph.ensures, c.graph-new_graph.ensures) at c.in_ok-pairs.ensures.moved)
