@@ -1,6 +1,9 @@
 -- The idle sections of a rule file: those that match nothing in a library.
-use Rattle.std.specs.Prelude.{◌||◌, ℕ, Bool, not, List, Option, filter, flat_map}
+use Rattle.std.specs.Prelude.{◌≡◌, ◌<◌, ◌≤◌, ◌+◌, ◌-◌, ◌*◌, ◌^◌, ◌||◌, ℕ, Bool, not, List, length, min, Option, filter, flat_map, sum_by}
 use Rattle.std.specs.List.{list_any}
+use Rattle.abi_base.specs.declared.limit.Limit.{Limit}
+use Rattle.abi_base.specs.declared.limit.Limit.TheVariants as limit
+use Rattle.abi_base.specs.Budgets.{allowed}
 use Rattle.abi_types.specs.declared.kind.Way.TheVariants.{Direct, Pointer}
 use Rattle.abi_types.specs.Exports.{PlainExport}
 use Rattle.abi_types.specs.Libraries.{PlainLibrary}
@@ -28,3 +31,18 @@ holds_in library section = list_any (holds_of_export section library.soname) lib
 -- the sections that match nothing, in the order of the rule file
 unfoldable pub idle_of : PlainRules → PlainLibrary → List PlainSection
 idle_of rules library = filter (λ section. not (holds_in library section)) rules.sections
+
+-- ---- the limit
+
+abbrev pub label_count : PlainNode → ℕ
+label_count n = length n.labels
+
+-- the most tests that one section takes: one for each export, and two for each name, where a name of several types may count once
+abbrev pub most_tests : PlainLibrary → ℕ
+most_tests library = length library.exports + 2 * sum_by label_count library.graph
+
+-- The limit is that on tests, and with so many for one section, all sections take more than it allows.
+abbrev pub PassesTests : PlainRules → PlainLibrary → Limit → Type 0
+PassesTests rules library l =
+    (l ≡ limit.IdleSections)
+    × ((tests : ℕ) × (tests ≤ most_tests library) × (allowed limit.IdleSections (min (length rules.sections + tests) (2 ^ 38 - 1)) < length rules.sections * tests))

@@ -1,15 +1,17 @@
 // Sections that match nothing.
-ghost use Rattle.std.specs.Prelude.{◌≡◌, not, map, IfOk};
+ghost use Rattle.std.specs.Prelude.{◌≡◌, ◌≤◌, ◌+◌, ◌*◌, not, length, map, IfErr, IfOk};
+ghost use Rattle.abi_base.specs.declared.fault.NoMemory.TheVariants.{Allocation};
+ghost use Rattle.abi_base.specs.Outcome.{OnLimit};
 ghost use Rattle.std.specs.Borrow.{Bor};
 ghost use Rattle.std.specs.List.{list_any};
 ghost use Rattle.std.specs.Option.{option_copied};
 ghost use Rattle.abi_types.specs.Plain.{plain_exports, plain_label};
 ghost use Rattle.suppression_text.specs.Rules.{PlainSection};
-ghost use Rattle.idle_sections.specs.Idle.{all_labels, holds_in, holds_of_export, holds_of_label, idle_of};
+ghost use Rattle.idle_sections.specs.Idle.{all_labels, holds_in, holds_of_export, holds_of_label, idle_of, PassesTests};
 ghost use Rattle.idle_sections.specs.Names.{AreAlike};
 
 use crate::names::names_of;
-use abi_base::{Effort, Limit, List, NoMemory};
+use abi_base::{Budget, Limit, List, NoMemory};
 use abi_types::{Export, Label, Library, OldIx, Way};
 use std::alloc::Global;
 use suppression_text::{Rules, Section};
@@ -17,19 +19,10 @@ use suppressions::compiled::CompiledSection;
 use suppressions::ready_section::ReadySection;
 use suppressions::subject::Subject;
 
-// A constant added to the numbers of sections and tests. Each unit allows 64 tests, so the constant allows some 268 million.
-const MORE: usize = 1 << 22;
-
-// The effort for the tests of all sections.
-fn effort_for(sections: &[Section], tests: usize) -> Effort {
-    Effort::for_bytes(
-        Limit::IdleSections,
-        MORE.saturating_add(sections.len()).saturating_add(tests),
-    )
-}
-
 // The most tests that one section takes: one for each export, and two for each name.
-fn tests_of(old: &Library<OldIx>, names: &[Label]) -> usize {
+fn tests_of(old: &Library<OldIx>, names: &[Label]) -> usize
+    ensures { result ≤ length old.now.exports + 2 * length names.now }
+{
     let exports = old.exports().len();
     exports.saturating_add(names.len().saturating_mul(2))
 }
@@ -78,7 +71,8 @@ fn is_idle(
     names: &[Label],
 ) -> Result<bool, NoMemory>
     requires { AreAlike (map plain_label names.now) (all_labels old.now.graph) }
-    ensures { IfOk result (λ idle. idle ≡ not (holds_in old.now section.now)) }
+    ensures is { IfOk result (λ idle. idle ≡ not (holds_in old.now section.now)) }
+    ensures named { IfErr result (λ e. e ≡ Allocation) }
 {
     let compiled = CompiledSection::of(alloc, section)?;
     let mut ready = ReadySection::of(alloc, &compiled)?;
@@ -97,14 +91,16 @@ pub fn idle_sections<'r>(
     rules: &'r Rules,
     old: &Library<OldIx>,
 ) -> Result<List<&'r Section>, NoMemory>
-    ensures { IfOk result (λ idle. map (λ (section : Bor PlainSection). section.now) idle ≡ idle_of rules.now old.now) }
+    ensures is { IfOk result (λ idle. map (λ (section : Bor PlainSection). section.now) idle ≡ idle_of rules.now old.now) }
+    ensures past { IfErr result (λ e. OnLimit e (PassesTests rules.now old.now)) }
 {
     let names = names_of(alloc, old.graph())?;
     let tests = tests_of(old, names.as_slice());
-    let mut effort = effort_for(rules.sections(), tests);
+    let units = rules.sections().len().saturating_add(tests);
+    let mut budget = Budget::of_many(Limit::IdleSections, units);
     let mut idle = List::new(alloc);
     for section in rules.sections() {
-        effort.spend(tests)?;
+        budget.take(tests)?;
         if is_idle(alloc, section, old, names.as_slice())? {
             idle.push(section)?;
         }

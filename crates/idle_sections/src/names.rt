@@ -1,7 +1,8 @@
 // The names of types, each once.
-ghost use Rattle.std.specs.Prelude.{◌≡◌, ◌∷◌, ◌++◌, [], map, IfOk, OnOk};
+ghost use Rattle.std.specs.Prelude.{◌≡◌, ◌≤◌, ◌+◌, ◌∷◌, ◌++◌, [], length, map, sum_by, IfErr, IfOk, OnOk};
+ghost use Rattle.abi_base.specs.declared.fault.NoMemory.TheVariants.{Allocation};
 ghost use Rattle.abi_types.specs.Plain.{plain_label};
-ghost use Rattle.idle_sections.specs.Idle.{all_labels};
+ghost use Rattle.idle_sections.specs.Idle.{all_labels, label_count};
 ghost use Rattle.idle_sections.specs.Names as spec;
 ghost use Rattle.idle_sections.specs.Names.{is_seen, AreAlike, AreSeen};
 
@@ -38,6 +39,8 @@ fn push_once<'x>(
     requires { AreSeen seen.old (map plain_label names.old.items) }
     ensures seen { OnOk result (AreSeen seen.new (map plain_label names.new.items)) }
     ensures alike { OnOk result (AreAlike (map plain_label names.new.items) (map plain_label names.old.items ++ plain_label label.now ∷ [])) }
+    ensures few { OnOk result (length names.new.items ≤ length names.old.items + 1) }
+    ensures named { IfErr result (λ e. e ≡ Allocation) }
 {
     if was_seen(seen, label) {
         return Ok(());
@@ -56,6 +59,8 @@ fn push_names<'x>(
     requires { AreSeen seen.old (map plain_label names.old.items) }
     ensures seen { OnOk result (AreSeen seen.new (map plain_label names.new.items)) }
     ensures alike { OnOk result (AreAlike (map plain_label names.new.items) (map plain_label names.old.items ++ map plain_label labels.now)) }
+    ensures few { OnOk result (length names.new.items ≤ length names.old.items + length labels.now) }
+    ensures named { IfErr result (λ e. e ≡ Allocation) }
 {
     for label in labels {
         push_once(seen, names, label)?;
@@ -65,7 +70,9 @@ fn push_names<'x>(
 
 /// The names of the types of a graph, each once.
 pub fn names_of<'x>(alloc: Global, graph: &Graph<'x, OldIx>) -> Result<Vec<Label<'x>>, NoMemory>
-    ensures { IfOk result (λ names. AreAlike (map plain_label names.items) (all_labels graph.now)) }
+    ensures alike { IfOk result (λ names. AreAlike (map plain_label names.items) (all_labels graph.now)) }
+    ensures few { IfOk result (λ names. length names.items ≤ sum_by label_count graph.now) }
+    ensures named { IfErr result (λ e. e ≡ Allocation) }
 {
     let mut seen = BTreeSet::new(alloc);
     let mut names = Vec::new(alloc);

@@ -6,7 +6,7 @@ ghost use Rattle.suppression_text.specs.Lines as spec;
 ghost use Rattle.suppression_text.specs.PlainLines.{plain_line};
 
 /// The form of a line.
-#[derive(Clone, Copy, Debug)]
+#[derive(Clone, Copy)]
 pub enum Line<'a> {
     /// An empty line, a line of blanks, or a comment.
     Comment,

@@ -14,7 +14,7 @@ use abi_types::{Label, LabelKind, Way};
 use std::collections::BTreeMap;
 
 /// Whether a type is marked, by how a program reaches it.
-#[derive(Clone, Copy, Debug)]
+#[derive(Clone, Copy)]
 pub struct MarkedByWay {
     /// Marked if it is reached by value.
     pub direct: bool,

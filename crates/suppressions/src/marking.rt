@@ -32,6 +32,20 @@ fn one_of(one: bool, other: bool) -> bool
     one || other
 }
 
+// Whether compiled sections drop an export.
+fn compiled_drop(
+    alloc: Global,
+    compiled: &CompiledSections,
+    soname: Option<&[u8]>,
+    export: &Export,
+) -> Result<bool, NoMemory>
+    ensures is { IfOk result (λ drop. drop ≡ drops compiled.now (option_copied soname.entry) (plain_export export.now)) }
+    ensures past { IfErr result (λ e. OnLimit e (PassesCompiled compiled.now)) }
+{
+    let mut ready = ReadyRules::of(alloc, compiled)?;
+    Ok(ready.some_holds(&Subject::of_export(soname, export)))
+}
+
 // Whether the chosen sections drop an export: with `asking` those that test names, else the others.
 #[tactic(auto, using(crate::proofs::CrowdLemmas::chosen_pass))]
 fn chosen_drop(
@@ -45,8 +59,8 @@ fn chosen_drop(
     ensures past { IfErr result (λ e. OnLimit e (PassesHandles sections.now)) }
 {
     let compiled = CompiledSections::chosen(alloc, sections, asking)?;
-    let mut ready = ReadyRules::of(alloc, &compiled)?;
-    Ok(ready.some_holds(&Subject::of_export(soname, export)))
+    let drop = compiled_drop(alloc, &compiled, soname, export)?;
+    Ok(drop)
 }
 
 /// Whether a rule file drops an export of a library that has this soname.
@@ -217,6 +231,39 @@ pub struct Flags {
     pointer: List<bool>,
 }
 
+// The flags of sections that are ready.
+fn ready_flags(
+    alloc: Global,
+    sections: &mut ReadyRules,
+    old: &Library<OldIx>,
+) -> Result<Flags, NoMemory>
+    ensures is { IfOk result (AreFlags sections.old old.now) }
+    ensures named { IfErr result (λ e. e ≡ Allocation) }
+{
+    let soname = old.soname();
+    let exports = export_flags(alloc, sections, soname, old.exports())?;
+    let NodeFlags { direct, pointer } = node_flags(alloc, sections, soname, old.graph())?;
+    Ok(Flags {
+        exports,
+        direct,
+        pointer,
+    })
+}
+
+// The flags of compiled sections.
+fn compiled_flags(
+    alloc: Global,
+    compiled: &CompiledSections,
+    old: &Library<OldIx>,
+) -> Result<Flags, NoMemory>
+    ensures is { IfOk result (AreFlags compiled.now old.now) }
+    ensures past { IfErr result (λ e. OnLimit e (PassesCompiled compiled.now)) }
+{
+    let mut ready = ReadyRules::of(alloc, compiled)?;
+    let flags = ready_flags(alloc, &mut ready, old)?;
+    Ok(flags)
+}
+
 // The flags of the chosen sections: with `asking` those that test names, else the others.
 #[tactic(auto, using(crate::proofs::CrowdLemmas::chosen_pass))]
 fn chosen_flags(
@@ -229,15 +276,8 @@ fn chosen_flags(
     ensures past { IfErr result (λ e. OnLimit e (PassesHandles sections.now)) }
 {
     let compiled = CompiledSections::chosen(alloc, sections, asking)?;
-    let mut ready = ReadyRules::of(alloc, &compiled)?;
-    let soname = old.soname();
-    let exports = export_flags(alloc, &mut ready, soname, old.exports())?;
-    let NodeFlags { direct, pointer } = node_flags(alloc, &mut ready, soname, old.graph())?;
-    Ok(Flags {
-        exports,
-        direct,
-        pointer,
-    })
+    let flags = compiled_flags(alloc, &compiled, old)?;
+    Ok(flags)
 }
 
 // For each position, whether the flag there is set in one of two lists.
