@@ -1,6 +1,6 @@
 -- Visits with breaks, and the notes at their rows, one after another.
-use Rattle.std.proofs.Common.{◌≡◌, ◌<◌, ◌+◌, ℕ, Bool, true, false, not, cond, List, [], ◌∷◌, ◌++◌, length, map, take, get_or, slice_get, Some, None, refl, sym, ◌∙◌, ap, subst, inl, inr, arith}
-use Rattle.std.specs.Prelude.{Contains, flat_map, ◌==◌, ◌&&◌, ◌||◌}
+use Rattle.std.proofs.Common.{◌≡◌, ◌<◌, ◌+◌, ℕ, Bool, true, false, not, cond, List, [], ◌∷◌, ◌++◌, length, map, take, get_or, slice_get, Some, None, refl, sym, ◌∙◌, ap, subst, inl, inr}
+use Rattle.std.specs.Prelude.{flat_map, ◌==◌, ◌&&◌, ◌||◌}
 use Rattle.std.specs.BTreeSet.{BTreeSet, contains_by}
 use Rattle.std.specs.Cmp.{both_tied, unsigned_ties}
 use Rattle.std.specs.List.{list_any}
@@ -14,22 +14,18 @@ use Rattle.std.proofs.lemmas.List.Folds.{list_any-append}
 use Rattle.abi_base.proofs.lemmas.Bools.{not_is_true, not_is_false, or_false}
 use Rattle.abi_base.specs.Lists.{firsts, firsts_after, with_first}
 use Rattle.abi_types.specs.Graphs.{IsGraph}
-use Rattle.abi_types.specs.Types.{PlainNode}
 use Rattle.abi_types.specs.Libraries.{PlainLibrary}
 use Rattle.abi_types.specs.declared.rule.Rule.TheVariants.{LibrarySoname}
 use Rattle.pair_rules.specs.declared.rules.Broken.{Broken}
 use Rattle.pair_rules.specs.Paths.{Path, From, PathLeadsTo}
-use Rattle.pair_rules.specs.Steps.{PlainRoot, Task, Triple}
+use Rattle.pair_rules.specs.Steps.{Task, Triple}
 use Rattle.pair_explorer.specs.declared.visits.Visit.{Visit}
 use Rattle.pair_explorer.specs.ByClass.{IsSound}
 use Rattle.pair_explorer.specs.Explorations.{IsExploration}
 use Rattle.pair_explorer.specs.Routes.{path_at, path_of}
 use Rattle.pair_explorer.specs.Scopes.{Scope, rep, scope, LeadsByRep}
-use Rattle.pair_compare.specs.Explored.{scope_of}
-use Rattle.pair_compare.specs.reports.TypeFindings.{IsCoarse}
-use Rattle.type_classes.specs.Classes.{AreCoarsest, PlainClasses}
 use Rattle.pair_explorer.specs.Visits.{seen, Along, AreEarlier}
-use Rattle.cert_check.specs.Compatible.{Sides, task_of, typed_roots}
+use Rattle.cert_check.specs.Compatible.{Sides, task_of}
 use Rattle.pair_compare.specs.reports.Findings.{export_of}
 use Rattle.pair_compare.specs.reports.PathTexts.{IsWalk, label_at, steps_text}
 use Rattle.type_notes.specs.declared.note.Note.{Note}

@@ -19,10 +19,10 @@ added_note e = note_on_export ExportAdded (label e) [] []
 abbrev pub added_exports : List PlainExport → List PlainExport → List PlainExport
 added_exports old new = filter (λ e. not (has_export old e)) new
 
--- a note on each of them
+-- a note on each export that only the new library has
 unfoldable pub added_notes : List PlainExport → List PlainExport → List Note
 added_notes old new = map added_note (added_exports old new)
 
--- the note on a new export, where it is one of them
+-- the note on a new export that the old library does not have
 abbrev pub notes_if_added : List PlainExport → PlainExport → List Note
 notes_if_added old e = if has_export old e then [] else added_note e ∷ []

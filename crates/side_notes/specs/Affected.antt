@@ -42,7 +42,7 @@ first_visits visits breaks = firsts (same_types visits) (map (λ (p : ℕ × Bro
 
 -- ---- the notes on one row
 
--- as which row something is meant: the label of its export, and the steps of its path, where there are steps
+-- the reference to a row: the label of its export, and the steps of its path if it has steps
 abbrev pub as_row : List ℕ → List ℕ → List ℕ
 as_row label steps = codes "as " ++ label ++ behind (codes " ") steps
 
@@ -56,7 +56,7 @@ affected_note row label = record { kind = AffectedExport; export = label; path =
 abbrev pub note_beside : PlainLibrary → ℕ → List ℕ → ℕ → List Note
 note_beside l own row export = if export == own then [] else affected_note row (label_at l export) ∷ []
 
--- those on the other ones of these exports, at the row of a path
+-- the notes on these exports at the row of a path, without the row's own export
 abbrev pub notes_beside : PlainLibrary → Path → List ℕ → List Note
 notes_beside l path exports = flat_map (note_beside l (export_of path) (row_text l path)) exports
 
@@ -64,7 +64,7 @@ abbrev pub notes_by : PlainLibrary → Path → List ℕ → Option Visit → Li
 notes_by l path exports None = []
 notes_by l path exports (Some v) = notes_beside l path exports
 
--- those at the row of the visit of a number, where it is there
+-- the notes on these exports at the row of the visit of a number; none if there is no such visit
 unfoldable pub row_notes : PlainLibrary → List Visit → ℕ × List ℕ → List Note
 row_notes l visits row = notes_by l (path_at visits row.0) row.1 (slice_get visits row.0)
 
@@ -103,7 +103,7 @@ pub record AddsRow (l : PlainLibrary) (scope : Scope) (visits : List Visit) (num
   pub led : LeadToRow scope visits (number, exports)
   pub are : after ≡ before ++ row_notes l visits (number, exports)
 
--- ---- what is there to be read
+-- ---- what can be read
 
 -- the path to each visit goes over nodes that are there
 pub record AreSpelled (l : PlainLibrary) (visits : List Visit) : Type 0 where

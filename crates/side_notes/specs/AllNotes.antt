@@ -41,7 +41,7 @@ pub record IsOnTypes (old_dwarf new_dwarf : PlainDwarf) (s : Sides) (beside : Be
   pub notes : AreTypeNotes (noted_in old_dwarf new_dwarf s) beside.notes
   pub counts : beside.counts ≡ Some (counts_by s.old s.new s.marks)
 
--- they are such notes, or there are none
+-- the notes are as described, or there are none
 abbrev pub AreWhere : Bool → (List Note → Type 0) → List Note → Type 0
 AreWhere true Are notes = Are notes
 AreWhere false Are notes = notes ≡ []
@@ -53,15 +53,15 @@ pub record AreByRules (old new : PlainLibrary) (old_dwarf new_dwarf : PlainDwarf
   pub are_types : AreTypeNotes (noted_by old new (marks_of rules old) old_dwarf new_dwarf) before
   pub are : notes ≡ said_once (before ++ notes_by old new rules)
 
--- those by a rule file; none where it has a fault
+-- All notes by the bytes of a rule file. There are none where it has a fault.
 abbrev pub AreWithBoth : PlainLibrary → PlainLibrary → PlainDwarf → PlainDwarf → List ℕ → List Note → Type 0
 AreWithBoth old new old_dwarf new_dwarf rules = AreWhere (is_none (rule_fault rules)) (AreByRules old new old_dwarf new_dwarf (rules_of rules))
 
--- those of an old library with its debug information and of the bytes of a new one; none where these have a fault
+-- All notes on an old library with its debug information and the bytes of a new one. There are none where the new one has a fault.
 abbrev pub AreWithOld : PlainLibrary → PlainDwarf → List ℕ → List ℕ → List Note → Type 0
 AreWithOld old old_dwarf new rules = AreWhere (is_none (library_fault new)) (AreWithBoth old (library_of new) old_dwarf (debug_of new) rules)
 
--- those of two files and a rule file; none where one of them has a fault
+-- All notes on two files, by a rule file. There are none where one of the three has a fault.
 abbrev pub AreOfFiles : List ℕ → List ℕ → List ℕ → List Note → Type 0
 AreOfFiles old new rules = AreWhere (is_none (library_fault old)) (AreWithOld (library_of old) (debug_of old) new rules)
 
@@ -70,12 +70,12 @@ abbrev pub needs_where : Option Counts → List Note → List Note
 needs_where None notes = []
 needs_where (Some counts) notes = notes
 
--- those of two files and a rule file, and then those on what only the new file needs of other files
+-- all notes on two files, by a rule file, and then the notes on what only the new file needs of other files
 pub record AreWithNeeds (old new rules : List ℕ) (notes : List Note) : Type 0 where
   pub before : List Note
   pub are_before : AreOfFiles old new rules before
   pub are : notes ≡ before ++ needs_where (counts_in old new rules) (needs_notes old new)
 
--- the same; none where the old library and the new one are the same bytes
+-- All notes on two files. There are none where both are the same bytes.
 abbrev pub AreAllNotes : List ℕ → List ℕ → List ℕ → List Note → Type 0
 AreAllNotes old new rules = AreWhere (not (bytes_eq old new)) (AreWithNeeds old new rules)

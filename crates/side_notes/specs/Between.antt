@@ -10,10 +10,10 @@ use Rattle.side_notes.specs.Idle.{idle_notes}
 use Rattle.side_notes.specs.OldExports.{old_export_notes}
 use Rattle.side_notes.specs.Versions.{version_notes}
 
--- on the exports that are new, on the versions that are new, and on the old exports that are compared
+-- the notes on new exports, on new versions, and on the old exports that are compared
 unfoldable pub export_notes : PlainLibrary → PlainLibrary → Marks → List Note
 export_notes old new marks = (added_notes old.exports new.exports ++ version_notes old.exports new.exports) ++ old_export_notes marks.exports old.exports new.exports
 
--- those that rules do not drop, and then those on the sections that hold of nothing
+-- the notes on exports that no rule drops, and then the notes on the sections that match nothing
 abbrev pub notes_by : PlainLibrary → PlainLibrary → PlainRules → List Note
 notes_by old new rules = export_notes old new (marks_of rules old) ++ idle_notes rules old

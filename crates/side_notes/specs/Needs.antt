@@ -22,6 +22,6 @@ notes_on needs =
     ++ map (need_note NeedsVersion (codes " of ")) needs.versions
     ++ map (need_note NeedsSymbol (codes "@")) needs.symbols
 
--- those on what only the new one of two files needs
+-- the notes on what only the new one of two files needs
 unfoldable pub needs_notes : List ℕ → List ℕ → List Note
 needs_notes old new = notes_on (new_needs old new)

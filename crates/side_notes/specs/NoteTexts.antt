@@ -28,7 +28,7 @@ change_sign_of was = if length was == 0 then codes ": " else codes ", now "
 abbrev pub line_front : Note → List ℕ
 line_front note = concat (line_start note.kind ∷ behind (codes ": ") note.export ∷ behind (codes " ") note.path ∷ [])
 
--- and what was there and what is there now
+-- what a line says of the note's texts: the old state and the new one
 abbrev pub line_end : Note → List ℕ
 line_end note = concat (behind (codes ": was ") note.was ∷ behind (change_sign_of note.was) note.is ∷ newline ∷ [])
 
@@ -76,6 +76,6 @@ note_text notes = flat_map (kind_text notes) all_kinds
 abbrev pub line_if : NoteKind → ℕ → Note → List ℕ
 line_if kind so_far note = if is_of kind note && nat_lt so_far 10 then note_line note else []
 
--- one more than before, where the note is of a kind and there are fewer than ten
+-- the number of notes of a kind so far, with this one; it stops at ten
 abbrev pub counted_to : NoteKind → ℕ → Note → ℕ
 counted_to kind so_far note = if is_of kind note && nat_lt so_far 10 then so_far + 1 else so_far

@@ -19,7 +19,7 @@ names_types note = ghosts.eq note.kind TagOrName
 abbrev pub names_none : Note → Bool
 names_none note = not (names_types note)
 
--- a note on the names of types has these
+-- the note is on the names of types, and has these names
 abbrev pub has_names : List ℕ → List ℕ → Note → Bool
 has_names was is note = names_types note && (bytes_eq note.was was && bytes_eq note.is is)
 
@@ -28,7 +28,7 @@ has_names was is note = names_types note && (bytes_eq note.was was && bytes_eq n
 abbrev pub say_same : Note → Note → Bool
 say_same a b = names_types a && has_names a.was a.is b
 
--- some of the notes says the same as this one
+-- a note of the list says the same as this one
 abbrev pub is_said : List Note → Note → Bool
 is_said notes note = list_any (say_same note) notes
 

@@ -13,11 +13,11 @@ use Rattle.side_notes.specs.Made.{note_on_export}
 unfoldable pub versions_of : List PlainExport → List (List ℕ)
 versions_of exports = firsts bytes_eq (filter_map (λ (e : PlainExport). e.version) exports)
 
--- those of the new exports that no old one has
+-- the versions of the new exports that no old export has
 abbrev pub added_versions : List PlainExport → List PlainExport → List (List ℕ)
 added_versions old new = filter (λ version. not (list_any (bytes_eq version) (versions_of old))) (versions_of new)
 
--- a note on each of them
+-- a note on each version that only the new exports have
 abbrev pub version_note : List ℕ → Note
 version_note version = note_on_export VersionAdded [] [] (shown version)
 
@@ -29,6 +29,6 @@ abbrev pub kept_with : List (List ℕ) → Option (List ℕ) → List (List ℕ)
 kept_with kept None = kept
 kept_with kept (Some version) = with_first bytes_eq kept version
 
--- the note on a version, where it is none of these
+-- the note on a version that is not in the list
 abbrev pub notes_if_new : List (List ℕ) → List ℕ → List Note
 notes_if_new known version = if list_any (bytes_eq version) known then [] else version_note version ∷ []

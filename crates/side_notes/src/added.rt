@@ -8,7 +8,7 @@ ghost use Rattle.side_notes.specs.Added.{added_notes, notes_if_added};
 ghost use Rattle.side_notes.specs.Added as spec;
 
 use crate::making::{label_of, note_on};
-use abi_base::{Limit, List, NoMemory, taken};
+use abi_base::{Budget, Limit, List, NoMemory};
 use abi_types::{Export, Library, NewIx, OldIx};
 use std::alloc::Global;
 use type_notes::{Note, NoteKind};
@@ -21,32 +21,23 @@ pub fn has_export(old: &Library<OldIx>, export: &Export) -> bool
         .is_empty()
 }
 
-// The bytes of labels for each byte of the new file, and how many more there may be: the names of exports can share their bytes.
-const BYTES_A_BYTE: usize = 16;
-
-const BYTES_AT_LEAST: usize = 33_554_432;
-
 // What a note takes besides its label, in bytes.
 const NOTE: usize = 128;
 
-// Counts the labels of the exports that are added. It fails where they pass the limit.
+// Counts the labels of the exports that are added: the names of exports can share their bytes. It fails where they pass the limit.
 fn count_labels(old: &Library<OldIx>, new: &Library<NewIx>) -> Result<(), NoMemory>
     ensures { IfErr result (λ e. e ≡ Past Notes) }
 {
-    let mut left = new
-        .file()
-        .len()
-        .saturating_mul(BYTES_A_BYTE)
-        .saturating_add(BYTES_AT_LEAST);
+    let mut budget = Budget::of_many(Limit::Notes, new.file().len());
     for export in new.exports() {
         if !has_export(old, export) {
-            left = taken(Limit::Notes, left, export.name.len().saturating_add(NOTE))?;
+            budget.take(export.name.len().saturating_add(NOTE))?;
         }
     }
     Ok(())
 }
 
-// Appends the note on a new export, where the old library does not have it.
+// Appends the note on a new export, unless the old library has it.
 fn push_if_added(
     alloc: Global,
     notes: &mut List<Note>,

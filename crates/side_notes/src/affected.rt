@@ -69,7 +69,7 @@ struct Ground<'x, 'l, 'o, 'n, 'og, 'oc, 'ng, 'nc> {
     arrows: &'x [Arrow],
 }
 
-// Appends the steps of a path behind a label, where there are steps.
+// Appends the steps of a path, with a space in front, if the path has steps.
 fn push_steps(text: &mut String, steps: &str) -> Result<(), NoMemory>
     ensures { OnOk result (string_bytes text.new ≡ string_bytes text.old ++ behind (codes " ") steps.now) }
 {
@@ -81,7 +81,7 @@ fn push_steps(text: &mut String, steps: &str) -> Result<(), NoMemory>
     Ok(())
 }
 
-// Appends as which row something is meant: by the label of its export, and the steps of its path.
+// Appends the reference to a row: the label of its export, and the steps of its path.
 fn push_row_text(text: &mut String, label: &str, steps: &str) -> Result<(), NoMemory>
     ensures { OnOk result (string_bytes text.new ≡ string_bytes text.old ++ as_row label.now steps.now) }
 {
@@ -90,7 +90,7 @@ fn push_row_text(text: &mut String, label: &str, steps: &str) -> Result<(), NoMe
     push_steps(text, steps)
 }
 
-// As which row the types at the end of a path are meant.
+// The reference to the row of the types at the end of a path.
 fn row_text(alloc: Global, library: &Library<OldIx>, route: &Route) -> Result<List<u8>, NoMemory>
     requires { path_texts.IsWalk library.now (path_of route.now.export route.now.parts) }
     ensures { IfOk result (λ text. text ≡ spec.row_text library.now (path_of route.now.export route.now.parts)) }
@@ -110,7 +110,7 @@ struct TypeRow<'x, 'o> {
     text: &'x [u8],
 }
 
-// Adds the note on an export that leads to the types of a row, where it is not the row's own.
+// Adds the note on an export that leads to the types of a row, unless it is the row's own.
 fn push_beside(
     alloc: Global,
     notes: &mut List<Note>,
@@ -154,7 +154,7 @@ fn name_len_at(library: &Library<OldIx>, export: u32) -> usize
     }
 }
 
-// What the notes on exports may still take: steps along the visits and arrows at each row, and bytes.
+// The budget of the notes on exports: steps along the visits and arrows at each row, and bytes.
 #[derive(Drop)]
 struct NoteRoom {
     steps: Effort,
@@ -305,7 +305,45 @@ fn rows_of(alloc: Global, ground: &Ground, numbers: &[usize]) -> Result<List<Not
 
 // ---- two libraries
 
+// The notes at the rows of what was explored, by the arrows between its visits.
+fn with_arrows(
+    alloc: Global,
+    library: &Library<OldIx>,
+    walk: &Walk,
+    arrows: &[Arrow],
+    explored: &Explored,
+) -> Result<List<Note>, NoMemory>
+    requires spelled { AreSpelled library.now walk.now.visits.now }
+    requires walk { IsWalk (scope_of walk.now.ground.now) walk.now.visits.now walk.now.numbers.now }
+    requires arrows { arrows.now ≡ all_arrows (scope_of walk.now.ground.now) walk.now.visits.now walk.now.numbers.now }
+    ensures { IfOk result (AreRowNotes library.now (scope_of walk.now.ground.now) walk.now.visits.now (spec.first_visits explored.now.visits explored.now.breaks)) }
+{
+    let rows = first_visits(alloc, explored)?;
+    let ground = Ground {
+        library,
+        walk,
+        arrows,
+    };
+    rows_of(alloc, &ground, rows.as_slice())
+}
+
 // The notes at the rows of what was explored, with a counter of steps.
+fn with_walk<L: Ledger>(
+    alloc: Global,
+    library: &Library<OldIx>,
+    walk: &Walk,
+    explored: &Explored,
+    steps: &mut Steps<L>,
+) -> Result<List<Note>, NoMemory>
+    requires spelled { AreSpelled library.now walk.now.visits.now }
+    requires walk { IsWalk (scope_of walk.now.ground.now) walk.now.visits.now walk.now.numbers.now }
+    ensures { IfOk result (AreRowNotes library.now (scope_of walk.now.ground.now) walk.now.visits.now (spec.first_visits explored.now.visits explored.now.breaks)) }
+{
+    let arrows = arrows_of(alloc, walk, steps)?;
+    with_arrows(alloc, library, walk, arrows.as_slice(), explored)
+}
+
+// The notes at the rows of what was explored, with a counter of steps. It first numbers the visits.
 fn with_explored<L: Ledger>(
     alloc: Global,
     library: &Library<OldIx>,
@@ -324,14 +362,7 @@ fn with_explored<L: Ledger>(
         visits: &explored.visits,
         numbers: &numbers,
     };
-    let arrows = arrows_of(alloc, &walk, steps)?;
-    let rows = first_visits(alloc, explored)?;
-    let ground = Ground {
-        library,
-        walk: &walk,
-        arrows: arrows.as_slice(),
-    };
-    rows_of(alloc, &ground, rows.as_slice())
+    with_walk(alloc, library, &walk, explored, steps)
 }
 
 // The notes on two libraries that were compared, with a counter of steps.

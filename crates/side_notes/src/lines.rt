@@ -56,7 +56,7 @@ fn push(text: &mut Vec<u8>, bytes: &[u8]) -> Result<(), NoMemory>
     Ok(())
 }
 
-// Appends what a line begins with: that it is a note, and of which kind.
+// Appends the beginning of a line: the word `note` and the kind.
 #[tactic(auto, unfolding(crate::specs::NoteTexts::line_start))]
 fn push_start(text: &mut Vec<u8>, kind: NoteKind) -> Result<(), NoMemory>
     ensures ok { OnOk result (text.new.items ≡ text.old.items ++ line_start kind) }
@@ -66,7 +66,7 @@ fn push_start(text: &mut Vec<u8>, kind: NoteKind) -> Result<(), NoMemory>
     push(text, kind.name().as_bytes())
 }
 
-// Appends a text behind a sign, where there is one.
+// Appends a sign and a text, if the text is not empty.
 fn push_behind(text: &mut Vec<u8>, sign: &str, bytes: &[u8]) -> Result<(), NoMemory>
     ensures ok { OnOk result (text.new.items ≡ text.old.items ++ behind sign.now bytes.now) }
     ensures named { IfErr result (λ e. e ≡ Allocation) }
@@ -109,7 +109,7 @@ fn push_line(text: &mut Vec<u8>, note: &Note) -> Result<(), NoMemory>
     push_end(text, note)
 }
 
-// The sign in front of what is there now, behind what was there.
+// The sign between the old state and the new one.
 fn change_sign(was: &[u8]) -> &'static str
     ensures { result.now ≡ change_sign_of was.now }
 {
@@ -130,7 +130,7 @@ fn push_if(text: &mut Vec<u8>, kind: NoteKind, so_far: usize, note: &Note) -> Re
     push_line(text, note)
 }
 
-// Appends how many more there are, in words.
+// Appends the number of further notes, in words.
 fn push_rest_words(alloc: Global, text: &mut Vec<u8>, rest: usize) -> Result<(), NoMemory>
     ensures ok { OnOk result (text.new.items ≡ text.old.items ++ rest_words rest) }
     ensures named { IfErr result (λ e. e ≡ Allocation) }
@@ -142,7 +142,7 @@ fn push_rest_words(alloc: Global, text: &mut Vec<u8>, rest: usize) -> Result<(),
     push(text, b"\n")
 }
 
-// Appends how many more there are of a kind than are printed.
+// Appends the number of further notes of a kind, if more than ten exist.
 fn push_rest(
     alloc: Global,
     text: &mut Vec<u8>,
@@ -179,7 +179,7 @@ fn push_first(text: &mut Vec<u8>, notes: &[Note], kind: NoteKind) -> Result<(), 
     Ok(())
 }
 
-// One more than before, where a note is of a kind. Ten stand for any number.
+// The number of notes of a kind so far, counting this note. It stops at ten, the most that are printed.
 fn counted(so_far: usize, kind: NoteKind, note: &Note) -> usize
     requires { so_far ≤ 10 }
     ensures { result ≡ counted_to kind so_far note.now }

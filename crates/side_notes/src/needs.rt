@@ -7,44 +7,35 @@ ghost use Rattle.new_needs.specs.Plain.{plain_all, plain_needed, plain_needs};
 ghost use Rattle.side_notes.specs.Needs.{need_note, needed_text, notes_on, needs_notes};
 
 use crate::making::{bytes_of, note_on};
-use abi_base::{INPUT_LIMIT, Limit, List, NoMemory, taken};
+use abi_base::{Budget, Limit, List, NoMemory};
 use abi_types::push_shown;
 use new_needs::{FileNeeds, Needed, new_needs};
 use std::alloc::Global;
 use type_notes::{Note, NoteKind};
 
-// The bytes of texts for each byte of the new file, and how many more there may be: names can share their bytes.
-const BYTES_A_BYTE: usize = 16;
-
-const BYTES_AT_LEAST: usize = 33_554_432;
-
 // What a note takes besides its text, in bytes.
 const NOTE: usize = 128;
 
-// What is left of so many bytes after these texts. It fails where they pass the limit.
-fn left_after(left: usize, list: &[Needed]) -> Result<usize, NoMemory>
-    ensures { IfErr result (λ e. e ≡ Past Notes) }
+// Takes the texts of notes of one kind. It fails where they pass the limit.
+fn take_texts(budget: &mut Budget, list: &[Needed]) -> Result<(), NoMemory>
+    ensures limit { budget.new.limit ≡ budget.old.limit }
+    ensures named { IfErr result (λ e. e ≡ Past budget.old.limit) }
 {
-    let mut left = left;
     for needed in list {
-        let bytes = needed.name.len().saturating_add(needed.of.len());
-        left = taken(Limit::Notes, left, bytes.saturating_add(NOTE))?;
+        let letters = needed.name.len().saturating_add(needed.of.len());
+        budget.take(letters.saturating_add(NOTE))?;
     }
-    Ok(left)
+    Ok(())
 }
 
-// Counts the texts of all notes on needs. It fails where they pass the limit.
+// Counts the texts of all notes on needs: names can share their bytes. It fails where they pass the limit.
 fn count_texts(needs: &FileNeeds, file: &[u8]) -> Result<(), NoMemory>
     ensures { IfErr result (λ e. e ≡ Past Notes) }
 {
-    let all = file
-        .len()
-        .saturating_mul(BYTES_A_BYTE)
-        .saturating_add(BYTES_AT_LEAST);
-    let left = left_after(all, &needs.files)?;
-    let left = left_after(left, &needs.versions)?;
-    left_after(left, &needs.symbols)?;
-    Ok(())
+    let mut budget = Budget::of_many(Limit::Notes, file.len());
+    take_texts(&mut budget, &needs.files)?;
+    take_texts(&mut budget, &needs.versions)?;
+    take_texts(&mut budget, &needs.symbols)
 }
 
 // The printed form of what is needed: its name, and what it is of behind a sign.

@@ -9,10 +9,10 @@ use std::alloc::Global;
 use std::collections::BTreeSet;
 use type_notes::{Note, NoteKind};
 
-// The names that notes so far have: those that were there, and those that are there now.
+// The names in the notes so far: the old names and the new ones.
 type Said = BTreeSet<(Vec<u8>, Vec<u8>)>;
 
-// Puts the names of a note to those of notes before it. The answer is whether none of these says the same.
+// Adds the names of a note to those of the notes before it, and returns whether they are new.
 fn put_names(alloc: Global, said: &mut Said, note: &Note) -> Result<bool, NoMemory>
     requires { IsTrue (names_types note.now) }
     ensures new { IfOk result (λ new. (notes : List Note) → AreSaid notes said.old → new ≡ not (is_said notes note.now)) }
@@ -24,7 +24,7 @@ fn put_names(alloc: Global, said: &mut Said, note: &Note) -> Result<bool, NoMemo
     Ok(new)
 }
 
-// Whether no note before says the same as this one, whose names are kept where it has some.
+// Whether no earlier note says the same as this one. It keeps the names of a note on names.
 fn is_new(alloc: Global, said: &mut Said, note: &Note) -> Result<bool, NoMemory>
     ensures new { IfOk result (λ new. (notes : List Note) → AreSaid notes said.old → new ≡ not (is_said notes note.now)) }
     ensures said { OnOk result ((notes : List Note) → AreSaid notes said.old → AreSaid (notes ++ note.now ∷ []) said.new) }

@@ -5,6 +5,7 @@ ghost use Rattle.cert_check.specs.Compatible.{sides};
 ghost use Rattle.pair_compare.specs.Compared.{IsComparison, sides_in};
 ghost use Rattle.pair_compare.specs.Marking.{AreMarksOf};
 ghost use Rattle.suppressions.specs.Marks as marks_spec;
+ghost use Rattle.type_notes.specs.NotedPairs.{AreNotes};
 ghost use Rattle.side_notes.specs.AllNotes.{AreAllNotes, AreByRules, AreOfFiles, AreTypeNotes, AreWithBoth, AreWithNeeds, AreWithOld, IsOnTypes, needs_where, noted_in};
 ghost use Rattle.side_notes.specs.CountsOfFiles.{counts_by, counts_in, counts_with_both, counts_with_old};
 ghost use Rattle.side_notes.specs.Needs.{needs_notes};
@@ -55,20 +56,37 @@ struct OnTypes<'x, 'd, 'e> {
     new_dwarf: &'x Dwarf<'e>,
 }
 
-// The notes on the types of two libraries that were compared, and those on the exports that lead to types which break a rule.
-fn notes_on(alloc: Global, on: &OnTypes, compared: &Compared) -> Result<List<Note>, NoMemory>
+// The notes of two lists, one list after the other.
+fn joined(before: List<Note>, behind: List<Note>) -> Result<List<Note>, NoMemory>
+    ensures { IfOk result (λ notes. notes ≡ before ++ behind) }
+{
+    let mut all = before.into_vec();
+    let mut others = behind.into_vec();
+    all.append(&mut others)?;
+    Ok(List::of(all))
+}
+
+// The notes on the types of two libraries that were compared.
+fn type_notes_on(alloc: Global, on: &OnTypes, compared: &Compared) -> Result<List<Note>, NoMemory>
     requires { IsComparison compared.now }
-    ensures { IfOk result (AreTypeNotes (noted_in on.now.old_dwarf.now on.now.new_dwarf.now (sides_in compared.now))) }
+    ensures { IfOk result (AreNotes (noted_in on.now.old_dwarf.now on.now.new_dwarf.now (sides_in compared.now))) }
 {
     let ground = NotedPair {
         pair: *compared.pair,
         old_dwarf: on.old_dwarf,
         new_dwarf: on.new_dwarf,
     };
-    let mut all = type_notes(alloc, &ground)?.into_vec();
-    let mut affected = affected_exports(alloc, compared)?.into_vec();
-    all.append(&mut affected)?;
-    Ok(List::of(all))
+    type_notes(alloc, &ground)
+}
+
+// The notes on the types of two libraries that were compared, and those on the exports that lead to types which break a rule.
+fn notes_on(alloc: Global, on: &OnTypes, compared: &Compared) -> Result<List<Note>, NoMemory>
+    requires { IsComparison compared.now }
+    ensures { IfOk result (AreTypeNotes (noted_in on.now.old_dwarf.now on.now.new_dwarf.now (sides_in compared.now))) }
+{
+    let types = type_notes_on(alloc, on, compared)?;
+    let affected = affected_exports(alloc, compared)?;
+    joined(types, affected)
 }
 
 // How many exports are compared, by what a comparison bound them to.
@@ -94,8 +112,8 @@ impl<'x, 'd, 'e> View for OnTypes<'x, 'd, 'e> {
     }
 }
 
-// What is said of the types of two libraries that were read with their debug information, with a counter of steps. They are compared
-// once.
+// The notes on types and the counts for two libraries that were read with their debug information, with a counter of steps. The
+// libraries are compared once.
 fn beside_types<'x, L: Ledger>(
     alloc: Global,
     blank: Blank,
@@ -119,17 +137,7 @@ fn beside_types<'x, L: Ledger>(
 
 // ---- from the bytes of files
 
-// Notes behind others.
-fn joined(before: List<Note>, behind: List<Note>) -> Result<List<Note>, NoMemory>
-    ensures { IfOk result (λ notes. notes ≡ before ++ behind) }
-{
-    let mut all = before.into_vec();
-    let mut others = behind.into_vec();
-    all.append(&mut others)?;
-    Ok(List::of(all))
-}
-
-// Nothing is said beside.
+// No notes and no counts.
 fn nothing(alloc: Global) -> Beside
     ensures notes { result.notes ≡ [] }
     ensures counts { result.counts ≡ None }
@@ -161,7 +169,7 @@ fn with_rules(
     })
 }
 
-// By the bytes of a rule file.
+// All notes and counts on two libraries that were read with their debug information, by the bytes of a rule file.
 #[tactic(auto, using(crate::proofs::CountLemmas::when_readable, crate::proofs::CountLemmas::when_faulty))]
 fn with_both(
     alloc: Global,
@@ -214,7 +222,7 @@ fn of_files(alloc: Global, old: &[u8], new: &[u8], rules: &[u8]) -> Result<Besid
     }
 }
 
-// What is said beside, and then the notes on what only the new file needs of other files, where exports are counted.
+// The notes and counts, with the notes on what only the new file needs of other files. These are added where exports are counted.
 fn with_needs(alloc: Global, beside: Beside, old: &[u8], new: &[u8]) -> Result<Beside, NoMemory>
     requires old_short { length old.now ≤ input_limit }
     requires new_short { length new.now ≤ input_limit }
@@ -229,7 +237,7 @@ fn with_needs(alloc: Global, beside: Beside, old: &[u8], new: &[u8]) -> Result<B
     Ok(Beside { notes, counts })
 }
 
-// All that is said beside two libraries, from their bytes and those of a rule file.
+// All notes and counts on two libraries, from their bytes and those of a rule file.
 fn beside_files(alloc: Global, old: &[u8], new: &[u8], rules: &[u8]) -> Result<Beside, NoMemory>
     requires old_short { length old.now ≤ input_limit }
     requires new_short { length new.now ≤ input_limit }
@@ -242,9 +250,9 @@ fn beside_files(alloc: Global, old: &[u8], new: &[u8], rules: &[u8]) -> Result<B
 }
 
 /// All notes on two libraries, from their bytes and those of a rule file: those on their types, those on the exports that lead to
-/// types that break a rule, those on their exports alone, and then those on what only the new one needs of other files. Of notes on types with the same names before and now, only the
-/// first is kept. There are no notes if one of the files has a fault, or if both libraries are the same bytes; then nothing is
-/// read.
+/// types that break a rule, those on their exports alone, and then those on what only the new one needs of other files. Of notes on
+/// types with the same names before and now, only the first is kept. There are no notes if one of the files has a fault, or if both
+/// libraries are the same bytes; then nothing is read.
 pub fn all_notes(
     alloc: Global,
     old: &[u8],
@@ -275,6 +283,18 @@ fn counts_between(
     counts_of(alloc, marks, bound.as_slice())
 }
 
+// How many exports of a library are compared with its own, by the marks on it.
+fn own_counts_by_marks(
+    alloc: Global,
+    library: &Library<OldIx>,
+    marks: &Marks,
+) -> Result<Counts, NoMemory>
+    ensures { IfOk result (λ counts. counts ≡ counts_by library.now library.now marks.now) }
+{
+    let same = copied(alloc, library)?;
+    counts_between(alloc, library, &same, marks)
+}
+
 // How many exports of a library are compared with its own, by a rule file that was read.
 fn own_counts_by_rules(
     alloc: Global,
@@ -283,12 +303,11 @@ fn own_counts_by_rules(
 ) -> Result<Option<Counts>, NoMemory>
     ensures { IfOk result (λ counts. counts ≡ Some (counts_by library.now library.now (marks_spec.marks_of rules.now library.now))) }
 {
-    let same = copied(alloc, library)?;
     let marks = marks_by(alloc, rules, library)?;
-    Ok(Some(counts_between(alloc, library, &same, &marks)?))
+    Ok(Some(own_counts_by_marks(alloc, library, &marks)?))
 }
 
-// By the bytes of a rule file.
+// How many exports of a library are compared with its own, by the bytes of a rule file.
 #[tactic(auto, using(crate::proofs::CountLemmas::when_readable, crate::proofs::CountLemmas::when_faulty))]
 fn own_counts(
     alloc: Global,

@@ -13,7 +13,7 @@ use abi_types::{Export, Library, NewIx, OldIx};
 use std::alloc::Global;
 use type_notes::{Note, NoteKind};
 
-// Puts a version last, where there is one and it is new.
+// Adds the version of an export to the list, if the export has one and it is new.
 fn put<'a>(kept: &mut VersionList<'a>, version: Option<&'a [u8]>) -> Result<(), NoMemory>
     ensures { OnOk result (kept.new ≡ kept_with kept.old (option_copied version.entry)) }
 {
@@ -34,7 +34,7 @@ fn versions_of<'a>(alloc: Global, exports: &[Export<'a>]) -> Result<VersionList<
     Ok(kept)
 }
 
-// Appends the note on a version, where it is none of these.
+// Appends the note on a version, unless it is known.
 fn push_if_new(
     alloc: Global,
     notes: &mut List<Note>,
@@ -56,7 +56,7 @@ fn push_if_new(
     ))
 }
 
-// Appends the notes on these versions, where they are none of those.
+// Appends the notes on versions, without those that are known.
 fn push_each(
     alloc: Global,
     notes: &mut List<Note>,
