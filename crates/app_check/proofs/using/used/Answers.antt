@@ -12,9 +12,9 @@ use Rattle.app_check.proofs.using.used.Goals as goal
 
 pub returns : goal.returns
 returns c =
-    c.in_ok-used.ensures
+    c.in_ok-used.ensures.read
     ∙ all_used (option_copied c.args.soname) (plain_imports c.args.imports.now) (plain_exports c.args.old.now) (plain_exports c.in_ok-wanted.wanted.items) c.in_ok-places.places c.in_ok-found.found _
-    c.in_ok-wanted.ensures
+    c.in_ok-wanted.ensures.read
     (c.in_ok-places.ensures.places ∙ ap (λ (l : List Export). bind_each (plain_exports l) (plain_exports c.args.old.now)) c.deref.ensures.value)
-    (λ k. c.in_ok-found.ensures k ∙ ap (λ (l : List (Option ℕ)). list_any (is_at k) l) c.as_slice.ensures)
+    (λ k. c.in_ok-found.ensures.read k ∙ ap (λ (l : List (Option ℕ)). list_any (is_at k) l) c.as_slice.ensures)
     (sym (length-map c.args.old.now plain_export))
