@@ -1,4 +1,5 @@
 mod Alike
+mod Limits
 mod ParsedArguments
 mod Printed
 mod Rows

@@ -1,12 +1,13 @@
 -- The answers that a run may give: a row for each outcome.
 use Rattle.std.specs.Prelude.{◌≡◌, ◌≤◌, ℕ, List, length}
+use Rattle.abi_base.specs.declared.limit.Limit.{Limit}
 use Rattle.abi_top.specs.Calls.{Call}
 use Rattle.abi_top.specs.Rows.{command_of}
 use Rattle.cli_args.specs.Commands.{PlainRequest, usage_text}
 use Rattle.cli_args.specs.ParsedArguments.{request, usage, help, arguments_by}
 use Rattle.commands.specs.Commands.{Command, places_of}
 use Rattle.commands.specs.Reading.{AreTold}
-use Rattle.commands.specs.Replies.{Replies}
+use Rattle.commands.specs.Replies.{OnBytes, Replies}
 use Rattle.commands.specs.declared.outcome.Outcome.{Outcome}
 use Rattle.commands.specs.declared.outcome.Outcome.TheVariants.{Help, Usage}
 
@@ -31,3 +32,11 @@ Answers call outcome text = Asks call (λ asked. Replies call.reading (row_of ca
 -- this many bytes have room for the text of every answer to the call
 abbrev pub HasRoom : Call → ℕ → Type 0
 HasRoom call room = (outcome : Outcome) (text : List ℕ) → Answers call outcome text → length text ≤ room
+
+-- the arguments make a request, and its inputs gave bytes that pass this limit
+abbrev pub PassesLimit : Call → Limit → Type 0
+PassesLimit call limit = Asks call (λ asked. OnBytes call.reading (row_of call asked).inputs (λ all. (row_of call asked).passes all limit))
+
+-- bytes that pass no limit
+abbrev pub IsModest : (List (List ℕ) → Limit → Type 0) → List (List ℕ) → Type 0
+IsModest passes all = (limit : Limit) → passes all limit → ⊥

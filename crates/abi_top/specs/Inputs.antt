@@ -18,3 +18,7 @@ rules_at name = record { which = Rules; source = named_or_empty name; fault_in =
 -- a certificate of version 2
 abbrev pub certificate_at : Input → List ℕ → Wanted
 certificate_at which name = record { which = which; source = named name; fault_in = certificate_fault }
+
+-- any limit: nothing is said of which limits the inputs of a command pass
+abbrev pub any_limit : List (List ℕ) → Limit → Type 0
+any_limit all limit = Unit {0}

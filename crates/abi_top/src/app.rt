@@ -1,7 +1,8 @@
 // `app`: whether the new library may replace the old one for one application.
 ghost use Rattle.std.specs.Prelude.{◌≡◌, ◌≤◌, ℕ, List, [], ◌∷◌, Some, length, map, All, OnOk, IfOk, IfErr};
+ghost use Rattle.abi_base.specs.declared.fault.NoMemory.TheVariants.{Allocation};
 ghost use Rattle.abi_base.specs.Limits.{input_limit};
-ghost use Rattle.abi_top.specs.Rows.App.{AppSays, app_inputs, app_says};
+ghost use Rattle.abi_top.specs.Rows.App.{AppSays, app_inputs, app_passes, app_says};
 ghost use Rattle.report.specs.Listening.{Voice};
 ghost use Rattle.cli_args.specs.Commands.{plain_word};
 ghost use Rattle.commands.specs.Commands.{asks_of, places_of, plain_place};
@@ -27,8 +28,9 @@ pub struct App<'a> {
 impl<'a> App<'a> {
     /// The inputs and the sources of their bytes. It fails only if memory runs out.
     pub fn places(&self, alloc: Global) -> Result<Vec<Place<'a>>, NoMemory>
-        ensures { let words = self.now.words in IfOk result (λ places. map plain_place places.items
+        ensures places { let words = self.now.words in IfOk result (λ places. map plain_place places.items
             ≡ places_of (app_inputs (plain_word words.rules) words.program.now words.old.now words.new.now)) }
+        ensures named { IfErr result (λ e. e ≡ Allocation) }
     {
         let rules = Place::named_or_empty(alloc, Input::Rules, self.words.rules);
         Ok(vec![in alloc;
@@ -44,6 +46,8 @@ impl Command for App<'_> {
     ghost inputs = { λ c. app_inputs (plain_word c.words.rules) c.words.program.now c.words.old.now c.words.new.now };
 
     ghost says = { λ c voices. app_says (wanted_voices c.words.report voices) };
+
+    ghost passes = { λ c. app_passes };
 
     fn judge(
         self,
@@ -102,7 +106,7 @@ fn judge_app(
         (files.now.app.now ∷ files.now.old.now ∷ files.now.new.now ∷ files.now.rules.now ∷ [])
         j.verdict j.untyped j.text.items) }
     ensures stops { (rules_name : _) (app_name old_name new_name : List ℕ)
-        → IfErr result (StopsAt (asks_of (app_inputs rules_name app_name old_name new_name))
+        → IfErr result (StopsAt (asks_of (app_inputs rules_name app_name old_name new_name)) app_passes
         (files.now.app.now ∷ files.now.old.now ∷ files.now.new.now ∷ files.now.rules.now ∷ [])) }
 {
     let told = wanted_listeners(alloc, listeners, report)?;
@@ -116,7 +120,7 @@ fn judge_app(
 const fn stop_of(not_judged: NotJudged) -> Stop
     ensures { (rules_name : _) (app_name old_name new_name app old new rules : List ℕ)
         → IsNotJudged app old new rules not_judged
-        → StopsAt (asks_of (app_inputs rules_name app_name old_name new_name)) (app ∷ old ∷ new ∷ rules ∷ []) result }
+        → StopsAt (asks_of (app_inputs rules_name app_name old_name new_name)) app_passes (app ∷ old ∷ new ∷ rules ∷ []) result }
 {
     match not_judged {
         NotJudged::App(fault) => Stop::Unreadable(Input::App, fault),

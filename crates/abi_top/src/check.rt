@@ -1,8 +1,9 @@
 // `check`: whether the new library may replace the old one.
 ghost use Rattle.std.specs.Prelude.{◌≡◌, ◌≤◌, ℕ, List, [], ◌∷◌, Some, length, map, All, OnOk, IfOk, IfErr};
+ghost use Rattle.abi_base.specs.declared.fault.NoMemory.TheVariants.{Allocation};
 ghost use Rattle.abi_base.specs.Limits.{input_limit};
 ghost use Rattle.abi_base.specs.declared.remark.Remark.{Remark as AnyRemark};
-ghost use Rattle.abi_top.specs.Rows.Check.{CheckSays, check_inputs, check_says};
+ghost use Rattle.abi_top.specs.Rows.Check.{CheckSays, check_inputs, check_passes, check_says};
 ghost use Rattle.report.specs.Listening.{Voice};
 ghost use Rattle.cli_args.specs.Commands.{plain_word};
 ghost use Rattle.commands.specs.Commands.{asks_of, places_of, plain_place};
@@ -30,8 +31,9 @@ pub struct Check<'a> {
 impl<'a> Check<'a> {
     /// The inputs and the sources of their bytes. It fails only if memory runs out.
     pub fn places(&self, alloc: Global) -> Result<Vec<Place<'a>>, NoMemory>
-        ensures { let words = self.now.words in IfOk result (λ places. map plain_place places.items
+        ensures places { let words = self.now.words in IfOk result (λ places. map plain_place places.items
             ≡ places_of (check_inputs (plain_word words.rules) words.old.now words.new.now)) }
+        ensures named { IfErr result (λ e. e ≡ Allocation) }
     {
         let rules = Place::named_or_empty(alloc, Input::Rules, self.words.rules);
         Ok(vec![in alloc;
@@ -46,6 +48,8 @@ impl Command for Check<'_> {
     ghost inputs = { λ c. check_inputs (plain_word c.words.rules) c.words.old.now c.words.new.now };
 
     ghost says = { λ c voices. check_says (wanted_voices c.words.report voices) };
+
+    ghost passes = { λ c. check_passes };
 
     fn judge(
         self,
@@ -99,7 +103,7 @@ fn check_pair(
     ensures said { IfOk result (λ j. check_says (wanted_voices report (map voice listeners.items))
         (old.now ∷ new.now ∷ rules.now ∷ []) j.verdict j.untyped j.text.items) }
     ensures stops { (rules_name : _) (old_name new_name : List ℕ)
-        → IfErr result (StopsAt (asks_of (check_inputs rules_name old_name new_name))
+        → IfErr result (StopsAt (asks_of (check_inputs rules_name old_name new_name)) check_passes
         (old.now ∷ new.now ∷ rules.now ∷ [])) }
 {
     let told = wanted_listeners(alloc, listeners, report)?;

@@ -1,7 +1,8 @@
 // `compose`: the certificate that two certificates with a common middle library compose.
 ghost use Rattle.std.specs.Prelude.{◌≡◌, ◌≤◌, ℕ, List, [], ◌∷◌, length, OnOk, IfOk, IfErr, map};
+ghost use Rattle.abi_base.specs.declared.fault.NoMemory.TheVariants.{Allocation};
 ghost use Rattle.abi_base.specs.Limits.{input_limit};
-ghost use Rattle.abi_top.specs.Rows.Compose.{compose_inputs, compose_says};
+ghost use Rattle.abi_top.specs.Rows.Compose.{compose_inputs, compose_passes, compose_says};
 ghost use Rattle.commands.specs.Commands.{asks_of, places_of, plain_place};
 ghost use Rattle.commands.specs.Faults.{AreReadable, StopsAt};
 ghost use Rattle.library_check.specs.Compositions.{IsUncomposed, PlainFiles};
@@ -24,9 +25,10 @@ pub struct Compose<'a> {
 impl<'a> Compose<'a> {
     /// The inputs and the sources of their bytes. It fails only if memory runs out.
     pub fn places(&self, alloc: Global) -> Result<Vec<Place<'a>>, NoMemory>
-        ensures { let words = self.now.words in IfOk result (λ places. map plain_place places.items
+        ensures places { let words = self.now.words in IfOk result (λ places. map plain_place places.items
             ≡ places_of (compose_inputs words.first.now words.middle.now words.last.now
             words.certificate1.now words.certificate2.now)) }
+        ensures named { IfErr result (λ e. e ≡ Allocation) }
     {
         Ok(vec![in alloc;
             Place::named(Input::First, self.words.first),
@@ -43,6 +45,8 @@ impl Command for Compose<'_> {
         c.words.certificate1.now c.words.certificate2.now };
 
     ghost says = { λ c voices. compose_says };
+
+    ghost passes = { λ c. compose_passes };
 
     fn judge(
         self,
@@ -78,7 +82,7 @@ fn compose_certificates(alloc: Global, files: &ChainFiles) -> Result<Judgement, 
         ∷ files.now.certificate1.now ∷ files.now.certificate2.now ∷ [])
         j.verdict j.untyped j.text.items) }
     ensures stops { (first middle last certificate1 certificate2 : List ℕ)
-        → IfErr result (StopsAt (asks_of (compose_inputs first middle last certificate1 certificate2))
+        → IfErr result (StopsAt (asks_of (compose_inputs first middle last certificate1 certificate2)) compose_passes
         (files.now.first.now ∷ files.now.middle.now ∷ files.now.last.now
         ∷ files.now.certificate1.now ∷ files.now.certificate2.now ∷ [])) }
 {
@@ -106,7 +110,7 @@ fn compose_certificates(alloc: Global, files: &ChainFiles) -> Result<Judgement, 
 const fn stop_of(uncomposed: Uncomposed) -> Stop
     ensures { (first middle last certificate1 certificate2 : List ℕ) (files : PlainFiles)
         → IsUncomposed files uncomposed
-        → StopsAt (asks_of (compose_inputs first middle last certificate1 certificate2))
+        → StopsAt (asks_of (compose_inputs first middle last certificate1 certificate2)) compose_passes
         (files.first ∷ files.middle ∷ files.last ∷ files.certificate1 ∷ files.certificate2 ∷ []) result }
 {
     match uncomposed {

@@ -1,7 +1,8 @@
 // `entries`: the debugging information entries of a library.
-ghost use Rattle.std.specs.Prelude.{◌≡◌, ◌≤◌, List, [], ◌∷◌, map, IfOk};
+ghost use Rattle.std.specs.Prelude.{◌≡◌, ◌≤◌, List, [], ◌∷◌, map, IfOk, IfErr};
+ghost use Rattle.abi_base.specs.declared.fault.NoMemory.TheVariants.{Allocation};
 ghost use Rattle.commands.specs.Commands.{places_of, plain_place};
-ghost use Rattle.abi_top.specs.Rows.Listings.{entries_inputs, entries_says};
+ghost use Rattle.abi_top.specs.Rows.Listings.{entries_inputs, entries_passes, entries_says};
 
 use abi_base::NoMemory;
 use commands::{Command, Input, Judgement, Place, Stop, Verdict, one, stop_at};
@@ -20,8 +21,9 @@ pub struct Entries<'a> {
 impl<'a> Entries<'a> {
     /// The inputs and the sources of their bytes. It fails only if memory runs out.
     pub fn places(&self, alloc: Global) -> Result<Vec<Place<'a>>, NoMemory>
-        ensures { IfOk result (λ places. map plain_place places.items
+        ensures places { IfOk result (λ places. map plain_place places.items
             ≡ places_of (entries_inputs self.now.library.now)) }
+        ensures named { IfErr result (λ e. e ≡ Allocation) }
     {
         Ok(vec![in alloc; Place::named(Input::Library, self.library)]?)
     }
@@ -31,6 +33,8 @@ impl Command for Entries<'_> {
     ghost inputs = { λ c. entries_inputs c.library.now };
 
     ghost says = { λ c voices. entries_says };
+
+    ghost passes = { λ c. entries_passes };
 
     fn judge(
         self,

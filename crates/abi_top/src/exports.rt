@@ -1,9 +1,10 @@
 // `exports`: the exports of a library.
-ghost use Rattle.std.specs.Prelude.{◌≡◌, ◌≤◌, List, [], ◌∷◌, IfOk, length, string_bytes, map};
+ghost use Rattle.std.specs.Prelude.{◌≡◌, ◌≤◌, List, [], ◌∷◌, IfOk, length, string_bytes, map, IfErr};
+ghost use Rattle.abi_base.specs.declared.fault.NoMemory.TheVariants.{Allocation};
 ghost use Rattle.abi_base.specs.Limits.{input_limit};
 ghost use Rattle.abi_base.specs.Outcome.{Judges};
 ghost use Rattle.commands.specs.Commands.{places_of, plain_place};
-ghost use Rattle.abi_top.specs.Rows.Listings.{exports_inputs, exports_says};
+ghost use Rattle.abi_top.specs.Rows.Listings.{exports_inputs, exports_passes, exports_says};
 ghost use Rattle.listings.specs.exports.ExportLines.{exports_text};
 ghost use Rattle.library_read.specs.Faults.{library_fault};
 ghost use Rattle.library_read.specs.Libraries.{library_of};
@@ -27,8 +28,9 @@ pub struct Exports<'a> {
 impl<'a> Exports<'a> {
     /// The inputs and the sources of their bytes. It fails only if memory runs out.
     pub fn places(&self, alloc: Global) -> Result<Vec<Place<'a>>, NoMemory>
-        ensures { IfOk result (λ places. map plain_place places.items
+        ensures places { IfOk result (λ places. map plain_place places.items
             ≡ places_of (exports_inputs self.now.library.now)) }
+        ensures named { IfErr result (λ e. e ≡ Allocation) }
     {
         Ok(vec![in alloc; Place::named(Input::Library, self.library)]?)
     }
@@ -38,6 +40,8 @@ impl Command for Exports<'_> {
     ghost inputs = { λ c. exports_inputs c.library.now };
 
     ghost says = { λ c voices. exports_says };
+
+    ghost passes = { λ c. exports_passes };
 
     fn judge(
         self,

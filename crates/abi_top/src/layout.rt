@@ -1,7 +1,8 @@
 // `layout`: the position of each member of a structure, with its holes and its padding.
 ghost use Rattle.std.specs.Prelude.{◌≡◌, ◌≤◌, ℕ, List, [], ◌∷◌, length, OnOk, IfOk, IfErr, map};
+ghost use Rattle.abi_base.specs.declared.fault.NoMemory.TheVariants.{Allocation};
 ghost use Rattle.abi_base.specs.Limits.{input_limit};
-ghost use Rattle.abi_top.specs.Rows.Layout.{layout_inputs, layout_says};
+ghost use Rattle.abi_top.specs.Rows.Layout.{layout_inputs, layout_passes, layout_says};
 ghost use Rattle.commands.specs.Commands.{asks_of, places_of, plain_place};
 ghost use Rattle.commands.specs.Faults.{AreReadable, StopsAt};
 
@@ -23,8 +24,9 @@ pub struct Layout<'a> {
 impl<'a> Layout<'a> {
     /// The inputs and the sources of their bytes. It fails only if memory runs out.
     pub fn places(&self, alloc: Global) -> Result<Vec<Place<'a>>, NoMemory>
-        ensures { IfOk result (λ places. map plain_place places.items
+        ensures places { IfOk result (λ places. map plain_place places.items
             ≡ places_of (layout_inputs self.now.words.library.now)) }
+        ensures named { IfErr result (λ e. e ≡ Allocation) }
     {
         Ok(vec![in alloc; Place::named(Input::Library, self.words.library)]?)
     }
@@ -34,6 +36,8 @@ impl Command for Layout<'_> {
     ghost inputs = { λ c. layout_inputs c.words.library.now };
 
     ghost says = { λ c voices. layout_says c.words.tag.now };
+
+    ghost passes = { λ c. layout_passes };
 
     fn judge(
         self,
@@ -50,7 +54,7 @@ fn lay_out(alloc: Global, library: &[u8], tag: &str) -> Result<Judgement, Stop>
     requires { length library.now ≤ input_limit }
     ensures readable { (name : List ℕ) → OnOk result (AreReadable (asks_of (layout_inputs name)) (library.now ∷ [])) }
     ensures said { IfOk result (λ j. layout_says tag.now (library.now ∷ []) j.verdict j.untyped j.text.items) }
-    ensures stops { (name : List ℕ) → IfErr result (StopsAt (asks_of (layout_inputs name)) (library.now ∷ [])) }
+    ensures stops { (name : List ℕ) → IfErr result (StopsAt (asks_of (layout_inputs name)) layout_passes (library.now ∷ [])) }
 {
     match layout_of(alloc, library, tag) {
         Ok(Laid::Lines(text)) => Ok(Judgement {

@@ -1,10 +1,13 @@
 // The top call.
-ghost use Rattle.std.specs.Prelude.{◌≡◌, ◌≢◌, ◌⊎◌, ◌≤◌, List, [], ℕ, Option, Some, map, All, IfOk, length};
+ghost use Rattle.std.specs.Prelude.{◌≡◌, ◌≢◌, ◌⊎◌, ◌≤◌, List, [], ℕ, Option, Some, map, All, IfErr, IfOk, length};
 ghost use Rattle.std.specs.Io.KnownBytes.{Appends};
 ghost use Rattle.abi_base.specs.Causes.{AppendsFront, Rose, SameCounts, Unfailing};
+ghost use Rattle.abi_base.specs.Outcome.{OnLimit};
 ghost use Rattle.abi_base.specs.declared.fault.Fault.{Fault as AnyFault};
+ghost use Rattle.abi_base.specs.declared.fault.NoMemory.TheVariants.{Allocation, Past};
+ghost use Rattle.abi_base.specs.declared.limit.Limit.{Limit as AnyLimit};
 ghost use Rattle.abi_base.specs.declared.remark.Remark.{Remark as AnyRemark};
-ghost use Rattle.abi_top.specs.Answer.{Answers, Asks, AsksForTold, HasRoom, row_of};
+ghost use Rattle.abi_top.specs.Answer.{Answers, Asks, AsksForTold, HasRoom, IsModest, PassesLimit, row_of};
 ghost use Rattle.abi_top.specs.Calls.{Call, call_of};
 ghost use Rattle.abi_top.specs.Rows.{command_of};
 ghost use Rattle.abi_top.specs.Verdicts.{Agrees, Disagrees, LeavesStayOf, MeansDone, MeansNo, MeansRefused, MeansYes};
@@ -16,7 +19,7 @@ ghost use Rattle.commands.specs.Faults.{FaultOfAll};
 ghost use Rattle.commands.specs.OneReply.{AreShortAfter, TellsFirst};
 ghost use Rattle.commands.specs.Outcomes.{IsNoMemory};
 ghost use Rattle.commands.specs.Reading.{AreOwnShort, AreTold, FailsToRead, reading_of};
-ghost use Rattle.commands.specs.Replies.{IsFaulty, Replies};
+ghost use Rattle.commands.specs.Replies.{IsFaulty, OnBytes, Replies};
 ghost use Rattle.commands.specs.Served.{AreServed, AreUnfailed, IsVerdict};
 ghost use Rattle.commands.specs.Texts.{read_fault_text, unreadable_text};
 ghost use Rattle.commands.specs.declared.input.Input.{Input as AnyInput};
@@ -208,6 +211,17 @@ pub fn run<'a, I: Inputs, S: Sink>(
     // If memory runs out, the sink is unchanged.
     ensures no_memory { IsNoMemory result.outcome → sink.new ≡ sink.old }
 
+    // A limit comes only if the inputs of the command gave bytes that pass it: what they count is above what the table of limits
+    // allows. So if the bytes of all inputs are known and pass no limit, memory runs out only where an allocation fails.
+    ensures past { let call : Call = call_of I.told I.faults I.given I.started
+        (map voice listeners.items) words.entry.now inputs.old inputs.new in
+        (limit : AnyLimit) → result.outcome ≡ Outcome.NoMemory (Past limit) → PassesLimit call limit }
+    ensures modest { let call : Call = call_of I.told I.faults I.given I.started
+        (map voice listeners.items) words.entry.now inputs.old inputs.new in
+        (asked : PlainRequest) (all : List (List ℕ)) → arguments_by (texts words.entry.now) ≡ requested asked
+        → TellsEach call.reading.told (places_of (row_of call asked).inputs) all → IsModest (row_of call asked).passes all
+        → (limit : AnyLimit) → result.outcome ≢ Outcome.NoMemory (Past limit) }
+
     // The names of the inputs are those in the arguments, in the order of the command's row.
     ensures files { (asked : PlainRequest) → arguments_by (texts words.entry.now) ≡ requested asked
         → (IsNoMemory result.outcome → ⊥)
@@ -251,6 +265,9 @@ fn answer_to<'a, I: Inputs>(
         → SameCounts (I.faults inputs.old) (I.faults inputs.new) }
     ensures files { IfOk result (λ a. (asked : PlainRequest) → arguments_by (texts words.entry.now) ≡ requested asked
         → map plain_file a.files.items ≡ files_of (places_of (command_of (map voice listeners.items) asked).inputs)) }
+    ensures past { let call : Call = call_of I.told I.faults I.given I.started
+        (map voice listeners.items) words.entry.now inputs.old inputs.new in
+        IfErr result (λ cause. OnLimit cause (PassesLimit call)) }
 {
     a_trial_is_of_a_count();
     match parse_arguments(alloc, words)? {
@@ -274,6 +291,7 @@ fn places_in<'a>(alloc: Global, request: Request<'a>) -> Result<Vec<Place<'a>>, 
     ensures places { let row = command_of [] (plain_request request.entry) in
         IfOk result (λ places. map plain_place places.items ≡ places_of row.inputs) }
     ensures short { let row = command_of [] (plain_request request.entry) in AreOwnShort (places_of row.inputs) }
+    ensures named { IfErr result (λ e. e ≡ Allocation) }
 {
     match request {
         Request::Check(words) => Check { words }.places(alloc),
@@ -305,6 +323,9 @@ fn answer_of<'a, I: Inputs>(
         → SameCounts (I.faults inputs.old) (I.faults inputs.new) }
     ensures files { let row = command_of (map voice listeners.items) (plain_request request.entry) in
         IfOk result (λ a. map plain_file a.files.items ≡ files_of (places_of row.inputs)) }
+    ensures past { let row = command_of (map voice listeners.items) (plain_request request.entry) in
+        let reading = reading_of I.told I.faults I.given I.started inputs.old inputs.new in
+        IfErr result (λ cause. OnLimit cause (λ limit. OnBytes reading row.inputs (λ all. row.passes all limit))) }
 {
     let places = places_in(alloc, request)?;
     match request {

@@ -1,8 +1,9 @@
 // `trial`: two libraries that are generated and checked.
-ghost use Rattle.std.specs.Prelude.{◌≡◌, ◌≤◌, ◌<◌, map, IfOk};
+ghost use Rattle.std.specs.Prelude.{◌≡◌, ◌≤◌, ◌<◌, map, IfErr, IfOk};
+ghost use Rattle.abi_base.specs.declared.fault.NoMemory.TheVariants.{Allocation};
 ghost use Rattle.trial_libraries.specs.Libraries.{library as made_library};
 ghost use Rattle.trial_libraries.specs.Limits.{most_functions};
-ghost use Rattle.abi_top.specs.Rows.Trial.{trial_inputs, trial_says};
+ghost use Rattle.abi_top.specs.Rows.Trial.{trial_inputs, trial_passes, trial_says};
 ghost use Rattle.commands.specs.Commands.{places_of, plain_place};
 ghost use Rattle.commands.specs.Reading.{AreOwnShort};
 
@@ -30,7 +31,8 @@ pub struct Trial {
 fn make_one(alloc: Global, count: u32, side: Side) -> Result<Vec<u8>, NoMemory>
     requires some { 0 < count }
     requires few { count ≤ most_functions }
-    ensures { IfOk result (λ file. file.items ≡ made_library count side) }
+    ensures made { IfOk result (λ file. file.items ≡ made_library count side) }
+    ensures named { IfErr result (λ e. e ≡ Allocation) }
 {
     match make(alloc, count, side) {
         Ok(file) => Ok(file),
@@ -45,6 +47,7 @@ impl Trial {
         ensures places { IfOk result (λ places. map plain_place places.items
             ≡ places_of (trial_inputs self.now.count)) }
         ensures short { AreOwnShort (places_of (trial_inputs self.now.count)) }
+        ensures named { IfErr result (λ e. e ≡ Allocation) }
     {
         made_libraries_are_no_longer_than_inputs();
         let old = make_one(alloc, self.count, Side::Old)?;
@@ -57,6 +60,8 @@ impl Command for Trial {
     ghost inputs = { λ c. trial_inputs c.count };
 
     ghost says = { λ c voices. trial_says c.count };
+
+    ghost passes = { λ c. trial_passes };
 
     fn judge(
         self,

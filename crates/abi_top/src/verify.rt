@@ -1,7 +1,8 @@
 // `verify`: whether a certificate is accepted.
 ghost use Rattle.std.specs.Prelude.{◌≡◌, ◌≤◌, ℕ, List, [], ◌∷◌, length, OnOk, IfOk, IfErr, map};
+ghost use Rattle.abi_base.specs.declared.fault.NoMemory.TheVariants.{Allocation};
 ghost use Rattle.abi_base.specs.Limits.{input_limit};
-ghost use Rattle.abi_top.specs.Rows.Verify.{verify_inputs, verify_says};
+ghost use Rattle.abi_top.specs.Rows.Verify.{verify_inputs, verify_passes, verify_says};
 ghost use Rattle.cli_args.specs.Commands.{plain_word};
 ghost use Rattle.commands.specs.Commands.{asks_of, places_of, plain_place};
 ghost use Rattle.commands.specs.Faults.{AreReadable, StopsAt};
@@ -24,8 +25,9 @@ pub struct Verify<'a> {
 impl<'a> Verify<'a> {
     /// The inputs and the sources of their bytes. It fails only if memory runs out.
     pub fn places(&self, alloc: Global) -> Result<Vec<Place<'a>>, NoMemory>
-        ensures { let words = self.now.words in IfOk result (λ places. map plain_place places.items
+        ensures places { let words = self.now.words in IfOk result (λ places. map plain_place places.items
             ≡ places_of (verify_inputs (plain_word words.rules) words.old.now words.new.now words.certificate.now)) }
+        ensures named { IfErr result (λ e. e ≡ Allocation) }
     {
         let rules = Place::named_or_empty(alloc, Input::Rules, self.words.rules);
         Ok(vec![in alloc;
@@ -42,6 +44,8 @@ impl Command for Verify<'_> {
         c.words.old.now c.words.new.now c.words.certificate.now };
 
     ghost says = { λ c voices. verify_says };
+
+    ghost passes = { λ c. verify_passes };
 
     fn judge(
         self,
@@ -71,7 +75,7 @@ fn verify_certificate(
     ensures said { IfOk result (λ j. verify_says
         (old.now ∷ new.now ∷ rules.now ∷ certificate.now ∷ []) j.verdict j.untyped j.text.items) }
     ensures stops { (rules_name : _) (old_name new_name certificate_name : List ℕ)
-        → IfErr result (StopsAt (asks_of (verify_inputs rules_name old_name new_name certificate_name))
+        → IfErr result (StopsAt (asks_of (verify_inputs rules_name old_name new_name certificate_name)) verify_passes
         (old.now ∷ new.now ∷ rules.now ∷ certificate.now ∷ [])) }
 {
     match library_check::verify(alloc, old, new, rules, certificate) {

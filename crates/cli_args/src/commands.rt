@@ -1,5 +1,6 @@
 // The commands: the request of each, its word, what it takes, and its line of the usage.
-ghost use Rattle.std.specs.Prelude.{◌≡◌, IfOk, false, length, option_map, true};
+ghost use Rattle.std.specs.Prelude.{◌≡◌, IfErr, IfOk, false, length, option_map, true};
+ghost use Rattle.abi_base.specs.declared.fault.NoMemory.TheVariants.{Allocation};
 ghost use Rattle.cli_args.specs.Commands.{makings_of, plain_request, plain_word, row_of, usage_text};
 ghost use Rattle.cli_args.specs.Commands as spec;
 ghost use Rattle.cli_args.specs.ParsedArguments.{made_of};
@@ -351,7 +352,8 @@ usage: abi check [--rules FILE] [--report text|table|counts|first|own] OLD NEW
 
 /// The usage text: a line for each command, with the options and the arguments that it takes.
 pub fn usage(alloc: Global) -> Result<Vec<u8>, NoMemory>
-    ensures { IfOk result (λ text. text.items ≡ usage_text) }
+    ensures text { IfOk result (λ text. text.items ≡ usage_text) }
+    ensures named { IfErr result (λ e. e ≡ Allocation) }
 {
     Ok(String::from_str(alloc, USAGE)?.into_bytes())
 }

@@ -1,5 +1,6 @@
 // The meaning of the arguments.
-ghost use Rattle.std.specs.Prelude.{◌≡◌, IfOk};
+ghost use Rattle.std.specs.Prelude.{◌≡◌, IfErr, IfOk};
+ghost use Rattle.abi_base.specs.declared.fault.NoMemory.TheVariants.{Allocation};
 ghost use Rattle.cli_args.specs.Words.{texts};
 ghost use Rattle.cli_args.specs.ParsedArguments.{arguments_by};
 ghost use Rattle.cli_args.specs.Requests.{plain_asked};
@@ -26,7 +27,8 @@ pub fn parse_arguments<'a>(
     alloc: Global,
     words: &'a [&'a str],
 ) -> Result<ParsedArguments<'a>, NoMemory>
-    ensures { IfOk result (λ asked. plain_asked asked ≡ arguments_by (texts words.entry.now)) }
+    ensures asked { IfOk result (λ asked. plain_asked asked ≡ arguments_by (texts words.entry.now)) }
+    ensures named { IfErr result (λ e. e ≡ Allocation) }
 {
     match matches_in(alloc, words) {
         Ok(matches) => Ok(judged(&matches)),

@@ -1,10 +1,11 @@
 // The answer of a command, built in memory before anything is written.
-ghost use Rattle.std.specs.Prelude.{◌≡◌, [], map, All, IfOk};
+ghost use Rattle.std.specs.Prelude.{◌≡◌, [], map, All, IfOk, IfErr};
 ghost use Rattle.abi_base.specs.Causes.{SameCounts, Unfailing};
+ghost use Rattle.abi_base.specs.Outcome.{OnLimit};
 ghost use Rattle.commands.specs.Commands.{files_of, places_of, plain_file, plain_place};
-ghost use Rattle.commands.specs.Outcomes.{IsStopReply};
+ghost use Rattle.commands.specs.Outcomes.{IsStopReply, StopsFor};
 ghost use Rattle.commands.specs.Reading.{AreOwnShort, AreTold, reading_of};
-ghost use Rattle.commands.specs.Replies.{Replies};
+ghost use Rattle.commands.specs.Replies.{OnBytes, Replies};
 
 use crate::command::Command;
 use crate::outcome::{Outcome, outcome_of};
@@ -27,7 +28,8 @@ pub struct Answer<'a> {
     pub files: Vec<File<'a>>,
 }
 
-/// The answer of a command: it reads the inputs whole, in order, and then judges their bytes. It fails only if memory runs out.
+/// The answer of a command: it reads the inputs whole, in order, and then judges their bytes. It fails only if an allocation fails or
+/// if the inputs gave bytes that pass a limit.
 pub fn answer_with<'a, C: Command, I: Inputs>(
     alloc: Global,
     places: &[Place<'a>],
@@ -42,6 +44,7 @@ pub fn answer_with<'a, C: Command, I: Inputs>(
     // If no call is made to fail and the bytes of all inputs are known, no fault count rises.
     ensures steady { Unfailing I.is_made_to_fail inputs.old → AreTold (I.told inputs.old) (places_of (C.inputs command)) → SameCounts (I.faults inputs.old) (I.faults inputs.new) }
     ensures files { IfOk result (λ a. map plain_file a.files.items ≡ files_of (places_of (C.inputs command))) }
+    ensures past { IfErr result (λ cause. OnLimit cause (λ limit. OnBytes (reading_of I.told I.faults I.given I.started inputs.old inputs.new) (C.inputs command) (λ all. C.passes command all limit))) }
 {
     let files = files_in(alloc, places)?;
     match read_all(alloc, inputs, places) {
@@ -60,6 +63,7 @@ pub fn answer_with<'a, C: Command, I: Inputs>(
 // The answer of a command that gives no verdict.
 fn stopped<'a>(alloc: Global, stop: Stop, files: Vec<File<'a>>) -> Result<Answer<'a>, NoMemory>
     ensures reply { IfOk result (λ a. IsStopReply stop a.outcome a.text.items) }
+    ensures cause { IfErr result (StopsFor stop) }
     ensures files { IfOk result (λ a. a.files ≡ files.entry) }
 {
     let text = match stop {

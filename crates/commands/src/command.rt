@@ -1,5 +1,6 @@
 // Commands.
 ghost use Rattle.std.specs.Prelude.{◌≡◌, [], List, ℕ, Option, length, map, All, OnOk, IfOk, IfErr};
+ghost use Rattle.abi_base.specs.declared.limit.Limit.{Limit as AnyLimit};
 ghost use Rattle.abi_base.specs.declared.remark.Remark.{Remark as AnyRemark};
 ghost use Rattle.report.specs.Listening.{Voice};
 ghost use Rattle.commands.specs.Commands.{Wanted, asks_of, items_of, places_of};
@@ -32,7 +33,10 @@ pub trait Command: Drop {
     /// What it may say about the bytes of its inputs, if none has a fault, to listeners with these voices.
     ghost says: { Self → List Voice → List (List ℕ) → AnyVerdict → Option AnyRemark → List ℕ → Type 0 };
 
-    /// Judges the bytes of its inputs, or reports the first fault in them.
+    /// Which limits the bytes of its inputs pass.
+    ghost passes: { Self → List (List ℕ) → AnyLimit → Type 0 };
+
+    /// Judges the bytes of its inputs, or reports the first fault in them, or a limit that they pass.
     fn judge(
         self,
         alloc: Global,
@@ -45,5 +49,5 @@ pub trait Command: Drop {
         requires short { AreShort (map items_of all.now) }
         ensures readable { OnOk result (AreReadable (asks_of (inputs self)) (map items_of all.now)) }
         ensures said { IfOk result (λ j. says self (map voice listeners.items) (map items_of all.now) j.verdict j.untyped j.text.items) }
-        ensures stops { IfErr result (StopsAt (asks_of (inputs self)) (map items_of all.now)) };
+        ensures stops { IfErr result (StopsAt (asks_of (inputs self)) (passes self) (map items_of all.now)) };
 }

@@ -1,9 +1,10 @@
 -- `app`: what it reads and says. It says yes with the exports that the application uses, or no with the report on them that
 -- listeners of these voices make.
 use Rattle.std.specs.Prelude.{◌≡◌, ℕ, List, [], ◌∷◌, Option, Some}
+use Rattle.abi_base.specs.declared.limit.Limit.{Limit}
 use Rattle.abi_base.specs.declared.remark.Remark.{Remark}
 use Rattle.abi_top.specs.Calls.{Call, Reads}
-use Rattle.abi_top.specs.Inputs.{library_at, rules_at}
+use Rattle.abi_top.specs.Inputs.{any_limit, library_at, rules_at}
 use Rattle.app_check.specs.Imports.{app_fault}
 use Rattle.cli_args.specs.Commands.{app}
 use Rattle.commands.specs.Commands.{Wanted, named}
@@ -26,6 +27,9 @@ AppSays voices program old new rules Yes text = IsCompatibleFor program old new 
 AppSays voices program old new rules No text = (IsCompatibleFor program old new rules → ⊥) × IsAppReportText voices program old new rules text
 AppSays voices program old new rules Refused text = ⊥
 AppSays voices program old new rules Done text = ⊥
+
+abbrev pub app_passes : List (List ℕ) → Limit → Type 0
+app_passes = any_limit
 
 abbrev pub app_says : List Voice → List (List ℕ) → Verdict → Option Remark → List ℕ → Type 0
 app_says voices (program ∷ old ∷ new ∷ rules ∷ []) v untyped text = AppSays voices program old new rules v text × (untyped ≡ Some (remark_on old new))

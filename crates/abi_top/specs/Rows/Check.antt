@@ -1,9 +1,10 @@
 -- `check`: what it reads and says. It says yes with the certificate, which shows a relation that proves the yes, or no with the
 -- report that listeners of these voices make.
 use Rattle.std.specs.Prelude.{◌≡◌, ℕ, List, [], ◌∷◌, Option, Some}
+use Rattle.abi_base.specs.declared.limit.Limit.{Limit}
 use Rattle.abi_base.specs.declared.remark.Remark.{Remark}
 use Rattle.abi_top.specs.Calls.{Call, Reads}
-use Rattle.abi_top.specs.Inputs.{library_at, rules_at}
+use Rattle.abi_top.specs.Inputs.{any_limit, library_at, rules_at}
 use Rattle.cli_args.specs.Commands.{check}
 use Rattle.commands.specs.Commands.{Wanted, named}
 use Rattle.commands.specs.declared.input.Input.TheVariants.{Old, New}
@@ -24,6 +25,9 @@ CheckSays voices old new rules Yes text = Compatible old new rules × IsCertific
 CheckSays voices old new rules No text = (Compatible old new rules → ⊥) × IsReportText voices old new rules text
 CheckSays voices old new rules Refused text = ⊥
 CheckSays voices old new rules Done text = ⊥
+
+abbrev pub check_passes : List (List ℕ) → Limit → Type 0
+check_passes = any_limit
 
 abbrev pub check_says : List Voice → List (List ℕ) → Verdict → Option Remark → List ℕ → Type 0
 check_says voices (old ∷ new ∷ rules ∷ []) v untyped text = CheckSays voices old new rules v text × (untyped ≡ Some (remark_on old new))

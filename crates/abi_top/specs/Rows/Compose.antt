@@ -1,9 +1,10 @@
 -- `compose`: what it reads and says. It says yes with the certificate that both compose, or it is refused with the certificate that
 -- is not accepted, or with what is lost between two accepted ones.
 use Rattle.std.specs.Prelude.{◌≡◌, ◌⊎◌, ℕ, List, [], ◌∷◌, Option, None}
+use Rattle.abi_base.specs.declared.limit.Limit.{Limit}
 use Rattle.abi_base.specs.declared.remark.Remark.{Remark}
 use Rattle.abi_top.specs.Calls.{Call, Reads}
-use Rattle.abi_top.specs.Inputs.{certificate_at, library_at}
+use Rattle.abi_top.specs.Inputs.{any_limit, certificate_at, library_at}
 use Rattle.abi_top.specs.Text.{refused_first_text, refused_second_text, refused_text}
 use Rattle.cert_check.specs.declared.refused.Refused.{Refused as Refusal}
 use Rattle.cli_args.specs.Commands.{compose}
@@ -40,6 +41,9 @@ pub record ComposeSays (files : PlainFiles) (v : Verdict) (text : List ℕ) : Ty
   pub composed : Composed
   pub is : IsComposition files composed
   pub as_text : IsComposedAs composed v text
+
+abbrev pub compose_passes : List (List ℕ) → Limit → Type 0
+compose_passes = any_limit
 
 abbrev pub compose_says : List (List ℕ) → Verdict → Option Remark → List ℕ → Type 0
 compose_says (first ∷ middle ∷ last ∷ certificate1 ∷ certificate2 ∷ []) v untyped text =

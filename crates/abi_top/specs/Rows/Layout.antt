@@ -1,9 +1,10 @@
 -- `layout`: what it reads and says. It is done with the layout of the structure with this tag, where each bit has its row, or
 -- refused if there is no such structure.
 use Rattle.std.specs.Prelude.{◌≡◌, ℕ, List, [], ◌∷◌, Option, None}
+use Rattle.abi_base.specs.declared.limit.Limit.{Limit}
 use Rattle.abi_base.specs.declared.remark.Remark.{Remark}
 use Rattle.abi_top.specs.Calls.{Call, Reads}
-use Rattle.abi_top.specs.Inputs.{library_at}
+use Rattle.abi_top.specs.Inputs.{any_limit, library_at}
 use Rattle.abi_top.specs.Text.{no_tag_text}
 use Rattle.cli_args.specs.Commands.{layout}
 use Rattle.commands.specs.Commands.{Wanted, named}
@@ -21,6 +22,9 @@ LayoutSays library tag Done text = IsLayoutText library tag text × CoversEachBi
 LayoutSays library tag Refused text = HasNoTag library tag × (text ≡ no_tag_text)
 LayoutSays library tag Yes text = ⊥
 LayoutSays library tag No text = ⊥
+
+abbrev pub layout_passes : List (List ℕ) → Limit → Type 0
+layout_passes = any_limit
 
 abbrev pub layout_says : List ℕ → List (List ℕ) → Verdict → Option Remark → List ℕ → Type 0
 layout_says tag (library ∷ []) v untyped text = LayoutSays library tag v text × (untyped ≡ None)

@@ -1,8 +1,9 @@
 -- `entries` and `exports`: what they read, and the listing that they say.
 use Rattle.std.specs.Prelude.{◌≡◌, ◌⊎◌, ℕ, List, [], ◌∷◌, Option, None}
+use Rattle.abi_base.specs.declared.limit.Limit.{Limit}
 use Rattle.abi_base.specs.declared.remark.Remark.{Remark}
 use Rattle.abi_top.specs.Calls.{Call, Reads}
-use Rattle.abi_top.specs.Inputs.{library_at}
+use Rattle.abi_top.specs.Inputs.{any_limit, library_at}
 use Rattle.cli_args.specs.Commands.{entries, exports}
 use Rattle.commands.specs.Commands.{Wanted, named}
 use Rattle.commands.specs.declared.input.Input.TheVariants.{Library}
@@ -24,9 +25,15 @@ pub record IsListed (listing : List ℕ) (v : Verdict) (untyped : Option Remark)
   pub none : untyped ≡ None
   pub is : text ≡ listing
 
+abbrev pub entries_passes : List (List ℕ) → Limit → Type 0
+entries_passes = any_limit
+
 abbrev pub entries_says : List (List ℕ) → Verdict → Option Remark → List ℕ → Type 0
 entries_says (library ∷ []) v untyped text = IsListed (listing_of library) v untyped text
 entries_says all v untyped text = ⊥
+
+abbrev pub exports_passes : List (List ℕ) → Limit → Type 0
+exports_passes = any_limit
 
 abbrev pub exports_says : List (List ℕ) → Verdict → Option Remark → List ℕ → Type 0
 exports_says (library ∷ []) v untyped text = IsListed (exports_text (library_of library)) v untyped text

@@ -1,9 +1,10 @@
 -- `migrate`: what it reads and says. It is done with the migrated certificate if that is accepted, and else it is refused with the
 -- first condition that it does not meet.
 use Rattle.std.specs.Prelude.{◌≡◌, ℕ, List, [], ◌∷◌, Option, None}
+use Rattle.abi_base.specs.declared.limit.Limit.{Limit}
 use Rattle.abi_base.specs.declared.remark.Remark.{Remark}
 use Rattle.abi_top.specs.Calls.{Call, Reads}
-use Rattle.abi_top.specs.Inputs.{library_at, rules_at}
+use Rattle.abi_top.specs.Inputs.{any_limit, library_at, rules_at}
 use Rattle.abi_top.specs.Text.{refused_text}
 use Rattle.cert_check.specs.declared.refused.Refused.{Refused as Refusal}
 use Rattle.cli_args.specs.Commands.{migrate}
@@ -24,6 +25,9 @@ MigrateSays old new rules certificate Done text = Compatible old new rules × Is
 MigrateSays old new rules certificate Refused text = (refusal : Refusal) × IsRefusedMigration old new rules certificate refusal × (text ≡ refused_text refusal)
 MigrateSays old new rules certificate Yes text = ⊥
 MigrateSays old new rules certificate No text = ⊥
+
+abbrev pub migrate_passes : List (List ℕ) → Limit → Type 0
+migrate_passes = any_limit
 
 abbrev pub migrate_says : List (List ℕ) → Verdict → Option Remark → List ℕ → Type 0
 migrate_says (old ∷ new ∷ rules ∷ certificate ∷ []) v untyped text = MigrateSays old new rules certificate v text × (untyped ≡ None)

@@ -1,8 +1,9 @@
 -- `trial`: the two libraries that it generates, and the lines that it says of them.
 use Rattle.std.specs.Prelude.{◌≡◌, ℕ, List, [], ◌∷◌, Option, None}
+use Rattle.abi_base.specs.declared.limit.Limit.{Limit}
 use Rattle.abi_base.specs.declared.remark.Remark.{Remark}
 use Rattle.abi_top.specs.Calls.{Call}
-use Rattle.abi_top.specs.Inputs.{library_at}
+use Rattle.abi_top.specs.Inputs.{any_limit, library_at}
 use Rattle.cli_args.specs.Commands.{trial}
 use Rattle.cli_args.specs.ParsedArguments.{arguments_by, request}
 use Rattle.commands.specs.Commands.{Wanted, own}
@@ -22,6 +23,9 @@ pub record IsTried (count : ℕ) (v : Verdict) (untyped : Option Remark) (text :
   pub done : v ≡ Done
   pub none : untyped ≡ None
   pub lines : IsTrialText count text
+
+abbrev pub trial_passes : List (List ℕ) → Limit → Type 0
+trial_passes = any_limit
 
 abbrev pub trial_says : ℕ → List (List ℕ) → Verdict → Option Remark → List ℕ → Type 0
 trial_says count all v untyped text = IsTried count v untyped text

@@ -1,9 +1,10 @@
 -- `verify`: what it reads and says. It says yes if the certificate is accepted, and else it is refused with the first condition
 -- that it does not meet.
 use Rattle.std.specs.Prelude.{◌≡◌, ℕ, List, [], ◌∷◌, Option, None}
+use Rattle.abi_base.specs.declared.limit.Limit.{Limit}
 use Rattle.abi_base.specs.declared.remark.Remark.{Remark}
 use Rattle.abi_top.specs.Calls.{Call, Reads}
-use Rattle.abi_top.specs.Inputs.{certificate_at, library_at, rules_at}
+use Rattle.abi_top.specs.Inputs.{any_limit, certificate_at, library_at, rules_at}
 use Rattle.abi_top.specs.Text.{accepted_text, refused_text}
 use Rattle.cert_check.specs.declared.refused.Refused.{Refused as Refusal}
 use Rattle.cli_args.specs.Commands.{verify}
@@ -24,6 +25,9 @@ VerifySays old new rules certificate Yes text = Compatible old new rules × IsAc
 VerifySays old new rules certificate Refused text = (refusal : Refusal) × IsRefusedText old new rules certificate refusal × (text ≡ refused_text refusal)
 VerifySays old new rules certificate No text = ⊥
 VerifySays old new rules certificate Done text = ⊥
+
+abbrev pub verify_passes : List (List ℕ) → Limit → Type 0
+verify_passes = any_limit
 
 abbrev pub verify_says : List (List ℕ) → Verdict → Option Remark → List ℕ → Type 0
 verify_says (old ∷ new ∷ rules ∷ certificate ∷ []) v untyped text = VerifySays old new rules certificate v text × (untyped ≡ None)

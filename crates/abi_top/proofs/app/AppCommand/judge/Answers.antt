@@ -1,5 +1,5 @@
 use Rattle.std.proofs.Common.{List, ℕ, sym, subst, OnOk, IfErr}
-use Rattle.abi_top.specs.Rows.App.{app_inputs}
+use Rattle.abi_top.specs.Rows.App.{app_inputs, app_passes}
 use Rattle.cli_args.specs.Commands.{plain_word}
 use Rattle.commands.specs.Commands.{asks_of}
 use Rattle.commands.specs.Faults.{AreReadable, StopsAt}
@@ -15,4 +15,4 @@ pub returns-clause-stops : goal.returns-clause-stops
 returns-clause-stops g c =
     let s = c.args.self.words in
     let asks = asks_of (app_inputs (plain_word s.rules) s.program.now s.old.now s.new.now) in
-    subst (λ (l : List (List ℕ)). IfErr c.judge_app.result (StopsAt asks l)) (sym c.four.ensures) (c.judge_app.ensures.stops (plain_word s.rules) s.program.now s.old.now s.new.now)
+    subst (λ (l : List (List ℕ)). IfErr c.judge_app.result (StopsAt asks app_passes l)) (sym c.four.ensures) (c.judge_app.ensures.stops (plain_word s.rules) s.program.now s.old.now s.new.now)

@@ -1,5 +1,5 @@
 use Rattle.std.proofs.Common.{List, ℕ, sym, subst, OnOk, IfErr}
-use Rattle.abi_top.specs.Rows.Compose.{compose_inputs}
+use Rattle.abi_top.specs.Rows.Compose.{compose_inputs, compose_passes}
 use Rattle.commands.specs.Commands.{asks_of}
 use Rattle.commands.specs.Faults.{AreReadable, StopsAt}
 use Rattle.abi_top.proofs.compose.ComposeCommand.judge.Goals as goal
@@ -15,5 +15,5 @@ pub returns-clause-stops : goal.returns-clause-stops
 returns-clause-stops g c =
     let s = c.args.self.words in
     let asks = asks_of (compose_inputs s.first.now s.middle.now s.last.now s.certificate1.now s.certificate2.now) in
-    subst (λ (l : List (List ℕ)). IfErr c.compose_certificates.result (StopsAt asks l)) (sym c.five.ensures)
+    subst (λ (l : List (List ℕ)). IfErr c.compose_certificates.result (StopsAt asks compose_passes l)) (sym c.five.ensures)
     (c.compose_certificates.ensures.stops s.first.now s.middle.now s.last.now s.certificate1.now s.certificate2.now)

@@ -1,9 +1,16 @@
 use Rattle.std.proofs.Common.{List, ℕ, [], ◌∷◌, sym, subst}
 use Rattle.listings.specs.entries.EntryLines.{listing_fault}
-use Rattle.commands.specs.Faults.{StopsAt}
+use Rattle.abi_top.specs.Rows.Listings.{entries_passes}
+use Rattle.commands.specs.Commands.{Asked}
+use Rattle.commands.specs.Faults.{StopsAt, stop_of}
+use Rattle.commands.proofs.lemmas.Stops.{stops_first}
+use Rattle.abi_top.proofs.Limits.{on_past_any}
 use Rattle.commands.specs.declared.input.Input.TheVariants.{Library}
 use Rattle.abi_top.proofs.entries.EntriesCommand.judge.Goals as goal
 
 pub returns-clause-stops : goal.returns-clause-stops
 returns-clause-stops g c =
-    subst (λ (l : List (List ℕ)). StopsAt ((Library, listing_fault) ∷ []) l c.stop_at.result) (sym c.one.ensures) (c.stop_at.ensures listing_fault c.one.result.now [] [] c.in-Err.ensures.judged)
+    let bytes = c.one.result.now in
+    let asks : List Asked = (Library, listing_fault) ∷ [] in
+    let stops : StopsAt asks entries_passes (bytes ∷ []) (stop_of Library c.in-Err.refusal) = stops_first Library listing_fault [] entries_passes bytes [] c.in-Err.refusal c.in-Err.ensures.judged (on_past_any c.in-Err.refusal) in
+    subst (λ (l : List (List ℕ)). StopsAt asks entries_passes l c.stop_at.result) (sym c.one.ensures) (subst (StopsAt asks entries_passes (bytes ∷ [])) (sym c.stop_at.ensures) stops)

@@ -1,5 +1,5 @@
 use Rattle.std.proofs.Common.{List, ℕ, sym, subst, OnOk, IfErr}
-use Rattle.abi_top.specs.Rows.Layout.{layout_inputs}
+use Rattle.abi_top.specs.Rows.Layout.{layout_inputs, layout_passes}
 use Rattle.commands.specs.Commands.{asks_of}
 use Rattle.commands.specs.Faults.{AreReadable, StopsAt}
 use Rattle.abi_top.proofs.layout.LayoutCommand.judge.Goals as goal
@@ -12,4 +12,4 @@ returns-clause-readable g c =
 pub returns-clause-stops : goal.returns-clause-stops
 returns-clause-stops g c =
     let asks = asks_of (layout_inputs c.args.self.words.library.now) in
-    subst (λ (l : List (List ℕ)). IfErr c.lay_out.result (StopsAt asks l)) (sym c.one.ensures) (c.lay_out.ensures.stops c.args.self.words.library.now)
+    subst (λ (l : List (List ℕ)). IfErr c.lay_out.result (StopsAt asks layout_passes l)) (sym c.one.ensures) (c.lay_out.ensures.stops c.args.self.words.library.now)
