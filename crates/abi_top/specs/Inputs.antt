@@ -1,5 +1,6 @@
 -- Inputs that several commands want.
 use Rattle.std.specs.Prelude.{ℕ, List, Option}
+use Rattle.abi_base.specs.declared.limit.Limit.{Limit}
 use Rattle.commands.specs.Commands.{PlainSource, Wanted, named, named_or_empty}
 use Rattle.commands.specs.declared.input.Input.{Input}
 use Rattle.commands.specs.declared.input.Input.TheVariants.{Rules}

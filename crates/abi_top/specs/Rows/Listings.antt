@@ -10,7 +10,7 @@ use Rattle.commands.specs.declared.input.Input.TheVariants.{Library}
 use Rattle.commands.specs.declared.verdict.Verdict.{Verdict}
 use Rattle.commands.specs.declared.verdict.Verdict.TheVariants.{Done}
 use Rattle.library_read.specs.Libraries.{library_of}
-use Rattle.listings.specs.entries.EntryLines.{listing_fault, listing_of}
+use Rattle.listings.specs.entries.EntryLines.{EntriesPass, listing_fault, listing_of}
 use Rattle.listings.specs.exports.ExportLines.{exports_text}
 
 -- an input of `entries` is checked only for the faults that prevent a listing of entries
@@ -26,7 +26,8 @@ pub record IsListed (listing : List ℕ) (v : Verdict) (untyped : Option Remark)
   pub is : text ≡ listing
 
 abbrev pub entries_passes : List (List ℕ) → Limit → Type 0
-entries_passes = any_limit
+entries_passes (library ∷ []) limit = EntriesPass library limit
+entries_passes all limit = ⊥
 
 abbrev pub entries_says : List (List ℕ) → Verdict → Option Remark → List ℕ → Type 0
 entries_says (library ∷ []) v untyped text = IsListed (listing_of library) v untyped text

@@ -4,7 +4,9 @@ use Rattle.std.specs.Fmt.{digits}
 use Rattle.std.specs.List.{concat}
 use Rattle.abi_base.specs.declared.fault.Fault.{Fault}
 use Rattle.abi_base.specs.Outcome.{first}
+use Rattle.abi_base.specs.declared.limit.Limit.{Limit}
 use Rattle.dwarf_units.specs.declared.entry.Entry.{Entry}
+use Rattle.dwarf_units.specs.Limits.{UnitsPass}
 use Rattle.dwarf_units.specs.Sequence.{all_entries, entries_fault}
 use Rattle.elf.specs.sections.DebugSections.{debug_info, debug_abbrev}
 use Rattle.elf.specs.file.Elf.{elf_fault}
@@ -27,3 +29,7 @@ entry_line e = line_of e.offset e.depth e.tag
 -- the lines of all entries, by offset
 unfoldable pub listing_of : List ℕ → List ℕ
 listing_of f = flat_map entry_line (all_entries (debug_info f) (debug_abbrev f))
+
+-- the limits that a library passes where its entries are listed
+abbrev pub EntriesPass : List ℕ → Limit → Type 0
+EntriesPass f l = UnitsPass (debug_info f) (debug_abbrev f) l

@@ -4,7 +4,6 @@ use Rattle.abi_top.specs.Rows.Listings.{entries_passes}
 use Rattle.commands.specs.Commands.{Asked}
 use Rattle.commands.specs.Faults.{StopsAt, stop_of}
 use Rattle.commands.proofs.lemmas.Stops.{stops_first}
-use Rattle.abi_top.proofs.Limits.{on_past_any}
 use Rattle.commands.specs.declared.input.Input.TheVariants.{Library}
 use Rattle.abi_top.proofs.entries.EntriesCommand.judge.Goals as goal
 
@@ -12,5 +11,5 @@ pub returns-clause-stops : goal.returns-clause-stops
 returns-clause-stops g c =
     let bytes = c.one.result.now in
     let asks : List Asked = (Library, listing_fault) ∷ [] in
-    let stops : StopsAt asks entries_passes (bytes ∷ []) (stop_of Library c.in-Err.refusal) = stops_first Library listing_fault [] entries_passes bytes [] c.in-Err.refusal c.in-Err.ensures.judged (on_past_any c.in-Err.refusal) in
+    let stops : StopsAt asks entries_passes (bytes ∷ []) (stop_of Library c.in-Err.refusal) = stops_first Library listing_fault [] entries_passes bytes [] c.in-Err.refusal c.in-Err.ensures.judged c.in-Err.ensures.past in
     subst (λ (l : List (List ℕ)). StopsAt asks entries_passes l c.stop_at.result) (sym c.one.ensures) (subst (StopsAt asks entries_passes (bytes ∷ [])) (sym c.stop_at.ensures) stops)
