@@ -16,7 +16,7 @@ ghost use Rattle.cli_args.specs.ParsedArguments.{arguments_by, request as reques
 ghost use Rattle.cli_args.specs.Words.{texts};
 ghost use Rattle.commands.specs.Commands.{asks_of, files_of, places_of, plain_file, plain_place};
 ghost use Rattle.commands.specs.Faults.{FaultOfAll};
-ghost use Rattle.commands.specs.OneReply.{AreShortAfter, TellsFirst};
+ghost use Rattle.commands.specs.OneReply.{AreShortAfter, TellsEach, TellsFirst};
 ghost use Rattle.commands.specs.Outcomes.{IsNoMemory};
 ghost use Rattle.commands.specs.Reading.{AreOwnShort, AreTold, FailsToRead, reading_of};
 ghost use Rattle.commands.specs.Replies.{IsFaulty, OnBytes, Replies};
