@@ -9,7 +9,7 @@ from pathlib import Path
 from .figures import Figure, constant, figure
 from .graphs import Node, parts
 
-_ROOM = "pair_compare/src/reports/room.rt"
+_ROWS = "pair_compare/src/reports/rows.rt"
 
 
 def run(program: str, *words: str) -> str:
@@ -53,7 +53,7 @@ def joined_lines(certificate: str) -> Figure:
 
 def report_bytes(report: str, old: str, new: str) -> Figure:
     """The rows of a report, each with the bytes that it takes besides its text."""
-    row = constant(_ROOM, "ROW")
+    row = constant(_ROWS, "ROW")
     found = sum(row + len(line.encode()) for line in report.splitlines()[1:])
     size = Path(old).stat().st_size + Path(new).stat().st_size
     return figure("Report", found, size)

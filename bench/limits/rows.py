@@ -8,7 +8,7 @@ from dataclasses import dataclass
 from .figures import constant, rate, words
 
 _SYMBOL = constant("elf/src/constants.rt", "SYM_SIZE")
-_ROW = constant("pair_compare/src/reports/room.rt", "ROW")
+_ROW = constant("pair_compare/src/reports/rows.rt", "ROW")
 
 
 @dataclass(frozen=True)
