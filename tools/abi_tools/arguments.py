@@ -46,6 +46,13 @@ def add_require_types(parser: argparse.ArgumentParser) -> None:
                              ".size, make them")
 
 
+def add_strict(parser: argparse.ArgumentParser) -> None:
+    """Adds the option that makes a yes with some notes no yes."""
+    parser.add_argument("--strict", action="store_true",
+                        help="do not say yes if abi has a note on what no rule judges and what can break compiled callers, such as a member "
+                             "that takes the place of padding: it cannot tell, and the notes are printed")
+
+
 def number_above_0(text: str) -> int:
     """A number above 0. Raises an argument error for any other."""
     value = int(text)
