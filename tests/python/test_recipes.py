@@ -366,10 +366,11 @@ def test_the_component_of_gitlab(project: Path, archive: Path, tmp_path: Path) -
             return re.sub(r"\$\[\[ inputs\.([a-z0-9-]+) \]\]", lambda found: given[found[1]], one)
 
         # the runner's folder for all files that are not of the project
-        script = "\n".join(put(line).replace("/tmp/", f"{tmp_path / 'runner'}/") for line in job["script"])
         shutil.rmtree(tmp_path / "runner", ignore_errors=True)
         (tmp_path / "runner").mkdir()
-        variables = [f"{name}={put(one)}" for name, one in job["variables"].items()]
+        variables = [*(f"{name}={put(one)}" for name, one in job["variables"].items()), f"TMPDIR={tmp_path / 'runner'}"]
+        script = "\n".join(map(put, job["script"]))
+        assert "/tmp" not in script
         return run("env", *variables, f"PATH={clean}", "bash", "-e", "-o", "pipefail", "-c", script, folder=project)
 
     component_holds(project, archive, judge)
