@@ -285,6 +285,14 @@ def test_exports_that_lead_to_a_new_enumerator_are_named(package: Path) -> None:
     assert "raise" not in judged(package).errors
 
 
+@pytest.mark.parametrize("relation, is_run", (("", True), (" [amd64]", True), (" [arm64]", False), (" <!nocheck>", True)))
+def test_the_relation_may_be_for_some_architectures(package: Path, relation: str, is_run: bool) -> None:
+    """The package abi is for amd64 alone, so that packages for others name it there."""
+    write(package, {"debian/control": CONTROL.replace("dh-sequence-abi", f"dh-sequence-abi{relation}")})
+    planned = done("dh", "binary", "--no-act", folder=package).split()
+    assert ("dh_abi" in planned) == is_run and "dh_strip" in planned
+
+
 def test_an_override_replaces_the_call(released: Path) -> None:
     write(released, {"stream.c": BREAK, "debian/rules": RULES + "override_dh_abi:\n\techo my own gate\n"})
     ended = run("debian/rules", "binary", folder=released)
