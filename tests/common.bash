@@ -44,7 +44,7 @@ is_recorded() {
     record=$(dirname "$1")/../share/doc/abi/record.json
     [ -f "$record" ] && command -v git >/dev/null || return 1
     grep -q "\"$(sha256sum <"$1" | cut -c 1-64)\"" "$record" && grep -q '"changed_since_commit": false' "$record" || return 1
-    commit=$(sed -n 's/^ *"commit": "\([0-9a-f]*\)",*$/\1/p' "$record")
+    commit=$(sed -n 's/^  "commit": "\([0-9a-f]*\)",*$/\1/p' "$record")
     [ -n "$commit" ] && git -C "$root" diff --quiet "$commit" -- crates crates.txt 2>/dev/null
 }
 
