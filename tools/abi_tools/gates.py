@@ -29,7 +29,8 @@ _UNDESCRIBED = ("what is defined in assembler, or in a unit that is built withou
                 "with -g")
 # The kinds of exports whose types are found by their code; all others are objects.
 _FUNCTIONS = ("FUNC", "NOTYPE")
-_INDIRECT = "IFUNC"
+# The kinds of exports that never have types: debug information has no address for thread-local objects, and indirect functions return one.
+_UNTYPED = ("IFUNC", "TLS")
 
 
 @dataclass(frozen=True)
@@ -72,8 +73,9 @@ class Library:
         return self.levels.has_types
 
     def never_has_types(self, export: Export) -> bool:
-        """Whether it is known that no debug information has a type of an export: it is an indirect function, or written in assembler."""
-        return export.kind == _INDIRECT or (export.kind in _FUNCTIONS and self.levels.assembler.has(self.values[export.number]))
+        """Whether it is known that no debug information has a type of an export: it is an indirect function, a thread-local object, or
+        written in assembler."""
+        return export.kind in _UNTYPED or (export.kind in _FUNCTIONS and self.levels.assembler.has(self.values[export.number]))
 
     def typed_count(self) -> tuple[int, int]:
         """How many of the exports with a size above 0 have types, and how many such exports there are."""
@@ -105,7 +107,7 @@ class Judgement:
     def words(self) -> str:
         """What was compared, in words."""
         if self.compared and not self.counting:
-            return f"{self.compared} exports compared, all of them indirect functions or in assembler, which have no types"
+            return f"{self.compared} exports compared, all of them indirect functions, thread-local or in assembler, which have no types"
         return f"{self.compared} exports compared, {self.typed} with types{share_words(self.compared, self.counting, self.typed)}"
 
     def new_needs(self) -> str:
@@ -186,7 +188,8 @@ def _of_yes(answer: Answer, old: Library, new: Library, least_share: float) -> J
 
 def _counts(old: Library, new: Library, one: Export, two: Export) -> bool:
     """Whether an export counts for the share of those with types. Debug information never has a type of an indirect function, of a
-    function in assembler, and of a symbol that a linker script, or assembler without `.size`, makes: it has the size 0 and no entry."""
+    thread-local object, of a function in assembler, and of a symbol that a linker script, or assembler without `.size`, makes: it has
+    the size 0 and no entry."""
     return not (old.never_has_types(one) or new.never_has_types(two)) and (one.size > 0 or old.has_types(one))
 
 
@@ -255,6 +258,6 @@ def _without_types(old: Library, new: Library, counting: Sequence[object]) -> st
     if not counting:
         return (f"all exports of {old.path} have size 0, as in assembler without .size, and no types"
                 if all(not export.size for export in old.exports.values()) else
-                f"all exports of {old.path} are indirect functions, in assembler, or of size 0 and without types")
+                f"all exports of {old.path} are indirect functions, thread-local, in assembler, or of size 0 and without types")
     untyped = [library for library in (old, new) if not library.typed_count()[0]] or [old, new]
     return ", and ".join(f"{one.path} {one.levels.reason()}" for one in untyped)
