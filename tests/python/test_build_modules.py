@@ -16,7 +16,7 @@ BREAK = SOURCE.replace("unsigned char *next;", "unsigned char *next; long positi
 PADDED = SOURCE.replace("int status;", "short status;")
 FILLED = SOURCE.replace("int status;", "short status, more;")
 YES = "yes: 2 exports compared, 2 with types"
-STRICT = "cannot tell: 1 difference that no rule judges can break compiled callers: member in padding: "
+STRICT = "cannot tell: 2 differences that no rule judges can break compiled callers: member in padding: "
 BROKEN = "L7 stream_left param 1 / target: member left at bit"
 
 SPEC = """\
