@@ -37,12 +37,23 @@ for tool in $tools; do
     there "$tool" || { told "nothing ran, since there is no $tool"; exit 0; }
 done
 
-# refuse_old PROGRAM: fails if the program is older than the sources of this repository.
+# is_recorded PROGRAM: whether the record of a package beside the program says that it was made of the crates as they are here. The files
+# of a package have the time of its commit, and those of a checkout the time of the checkout.
+is_recorded() {
+    local record commit
+    record=$(dirname "$1")/../share/doc/abi/record.json
+    [ -f "$record" ] && command -v git >/dev/null || return 1
+    grep -q "\"$(sha256sum <"$1" | cut -c 1-64)\"" "$record" && grep -q '"changed_since_commit": false' "$record" || return 1
+    commit=$(sed -n 's/^  "commit": "\([0-9a-f]*\)",*$/\1/p' "$record")
+    [ -n "$commit" ] && git -C "$root" diff --quiet "$commit" -- crates crates.txt 2>/dev/null
+}
+
+# refuse_old PROGRAM: fails if the program is older than the sources of this repository, unless its package says that it is of these.
 refuse_old() {
     local newer
     newer=$(find "$root/crates" "$root/crates.txt" -name out -prune -o \( -name '*.rt' -o -name '*.antt' -o -name crates.txt \) \
         -newer "$1" -print -quit)
-    [ -z "$newer" ] || fail "the program at $1 is older than $newer"
+    [ -z "$newer" ] || is_recorded "$1" || fail "the program at $1 is older than $newer"
 }
 
 # program_of CRATE STATUS GIVEN: sets `found` to the path of the crate's program: the path GIVEN, which must not be older than the

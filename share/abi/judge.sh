@@ -4,6 +4,7 @@
 # ABI_OLD, ABI_NEW     the released library or its baseline, and the new build
 # ABI_RULES            a rule file; none if it is empty
 # ABI_TYPES            the percentage of compared exports that must have types (90)
+# ABI_STRICT           true: notes on what no rule judges and what can break compiled callers are no yes (false)
 #
 # The folder abi-result gets `answer` (what abi-gate printed), `certificate` (on yes), `report` (otherwise) and `comment.md`, the text of
 # a comment in Markdown.
@@ -14,6 +15,15 @@ rm -rf "$folder"
 mkdir -p "$folder" || exit 2
 options=(--require-types "${ABI_TYPES:-90}")
 [ -z "${ABI_RULES:-}" ] || options+=(--rules "$ABI_RULES")
+case ${ABI_STRICT:-false} in
+true) options+=(--strict) ;;
+false) ;;
+*)
+    echo "judge.sh: ABI_STRICT is neither true nor false" | tee "$folder/answer" >&2
+    printf '### abi: no answer: strict is neither true nor false\n' >"$folder/comment.md"
+    exit 64
+    ;;
+esac
 
 status=0
 abi-gate "${options[@]}" --certificate "$folder/certificate" "${ABI_OLD-}" "${ABI_NEW-}" >"$folder/answer" 2>&1 || status=$?

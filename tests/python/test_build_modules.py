@@ -12,7 +12,11 @@ from conftest import ROOT, TOOLS, Ended, done, needs, run, tool
 
 SOURCE = (ROOT / "examples/stream/stream.c").read_text()
 BREAK = SOURCE.replace("unsigned char *next;", "unsigned char *next; long position;")
+# A release whose structure has two bytes of padding at its end, and a build that has a member there.
+PADDED = SOURCE.replace("int status;", "short status;")
+FILLED = SOURCE.replace("int status;", "short status, more;")
 YES = "yes: 2 exports compared, 2 with types"
+STRICT = "cannot tell: 2 differences that no rule judges can break compiled callers: member in padding: "
 BROKEN = "L7 stream_left param 1 / target: member left at bit"
 
 SPEC = """\
@@ -66,12 +70,17 @@ def rpm_build(folder: Path, words: str = "") -> Ended:
     return run("rpmbuild", f"--load={TOOLS / 'rpm/macros.abi'}", "-bb", *options, folder / "stream.spec", folder=Path(usual))
 
 
+def kept(folder: Path, source: str) -> None:
+    """Makes the baseline of a release with this source."""
+    (folder / "stream.c").write_text(source)
+    library = folder / "libstream.so.1"
+    done("gcc", "-g", "-O1", "-fPIC", "-shared", "-Wl,-soname,libstream.so.1", "-o", library, folder / "stream.c")
+    assert tool("abi-baseline", library, folder / "released.abi").status == 0
+
+
 def test_rpm_macros(prefix: Path, tmp_path: Path) -> None:
     needs("rpmbuild", "rpm", "gcc")
-    (tmp_path / "stream.c").write_text(SOURCE)
-    library = tmp_path / "libstream.so.1"
-    done("gcc", "-g", "-O1", "-fPIC", "-shared", "-Wl,-soname,libstream.so.1", "-o", library, tmp_path / "stream.c")
-    assert tool("abi-baseline", library, tmp_path / "released.abi").status == 0
+    kept(tmp_path, SOURCE)
     ended = rpm_build(tmp_path)
     assert ended.status == 0 and YES in ended.out and "--require-types 90" in ended.errors, ended
     (tmp_path / "stream.c").write_text(BREAK)
@@ -80,6 +89,11 @@ def test_rpm_macros(prefix: Path, tmp_path: Path) -> None:
     (tmp_path / "abi.rules").write_text("[suppress_type]\nname = stream\n")
     ended = rpm_build(tmp_path, f"-r {tmp_path}/abi.rules -t 50 ")
     assert ended.status == 0 and YES in ended.out and "--require-types 50" in ended.errors, ended
+    kept(tmp_path, PADDED)
+    (tmp_path / "stream.c").write_text(FILLED)
+    assert rpm_build(tmp_path).status == 0
+    ended = rpm_build(tmp_path, "-s ")
+    assert ended.status != 0 and STRICT in ended.out, ended
 
 
 def cmake_build(folder: Path, *options: object) -> Ended:
@@ -108,6 +122,15 @@ def test_cmake_module(prefix: Path, tmp_path: Path) -> None:
     (folder / "CMakeLists.txt").write_text(CMAKE.replace("TARGET stream)", f"TARGET stream {OPTIONS})"))
     ended = cmake_build(folder)
     assert ended.status == 0 and YES in ended.out and "interface" in ended.out, ended
+    (folder / "stream.c").write_text(PADDED)
+    (folder / "CMakeLists.txt").write_text(CMAKE)
+    cmake_build(folder)
+    done("cmake", "--build", folder / "build", "--target", "keep-abi-stream")
+    (folder / "stream.c").write_text(FILLED)
+    assert cmake_build(folder).status == 0
+    (folder / "CMakeLists.txt").write_text(CMAKE.replace("TARGET stream)", "TARGET stream STRICT)"))
+    ended = cmake_build(folder)
+    assert ended.status != 0 and STRICT in ended.out, ended
     (folder / "CMakeLists.txt").write_text(CMAKE.replace("TARGET stream)", "stream)"))
     ended = run("cmake", "-S", folder, "-B", folder / "build")
     assert ended.status != 0 and "abi_add_test takes TARGET" in ended.errors

@@ -250,6 +250,21 @@ def test_versions_of_symbols_to_raise_are_named(released: Path) -> None:
     assert ended.status == 0 and f"debian/libstream1.symbols: {words}" in ended.errors, ended
 
 
+def test_a_strict_build_passes_no_member_in_padding(released: Path) -> None:
+    write(released, {"stream.c": SOURCE.replace("unsigned left;", "long left;")})
+    installed(released)
+    done("dh_abi", "--update", folder=released)
+    assert judged(released, "--strict").status == 0
+    write(released, {"stream.c": SOURCE.replace("unsigned left; int status;", "long left; int status; int added;")})
+    installed(released)
+    assert judged(released).status == 0
+    ended = judged(released, "--strict")
+    assert ended.status != 0 and "cannot tell: 1 difference that no rule judges can break compiled callers: member in padding: " in ended.out, ended
+    assert f"cannot tell whether libstream.so.1 of libstream1 may replace the released one; the report is {KEPT}/" in ended.errors
+    assert "can break compiled callers: member in padding" in (released / KEPT / "libstream.so.1.report").read_text()
+    assert judged(released, "--strict", "--allow-cannot-tell").status == 0
+
+
 def test_exports_that_lead_to_a_new_enumerator_are_named(package: Path) -> None:
     """Also behind a typedef, a pointer and a structure. An enumeration that no export reaches, and one that is the same, have no line."""
     text = SOURCE + ("enum way { to, from };\ntypedef const enum way way_type;\nstruct held { way_type *way; };\nenum same { one };\n"
@@ -268,6 +283,14 @@ def test_exports_that_lead_to_a_new_enumerator_are_named(package: Path) -> None:
     assert ended.errors.count("raise the versions") == 1
     (package / "debian/libstream1.symbols").unlink()
     assert "raise" not in judged(package).errors
+
+
+@pytest.mark.parametrize("relation, is_run", (("", True), (" [amd64]", True), (" [arm64]", False), (" <!nocheck>", True)))
+def test_the_relation_may_be_for_some_architectures(package: Path, relation: str, is_run: bool) -> None:
+    """The package abi is for amd64 alone, so that packages for others name it there."""
+    write(package, {"debian/control": CONTROL.replace("dh-sequence-abi", f"dh-sequence-abi{relation}")})
+    planned = done("dh", "binary", "--no-act", folder=package).split()
+    assert ("dh_abi" in planned) == is_run and "dh_strip" in planned
 
 
 def test_an_override_replaces_the_call(released: Path) -> None:

@@ -187,16 +187,18 @@ def test_one_typed_export_is_not_enough(tmp_path: Path) -> None:
 @pytest.mark.parametrize("second", (
     "static int one(int a) { return a; }\nstatic void *choose(void) { return one; }\n" + "".join(
         f'int g{n}(int a) __attribute__((ifunc("choose")));\n' for n in range(9)),
-    "".join(f".globl g{n}\n.type g{n}, @function\ng{n}: ret\n.size g{n}, 1\n" for n in range(9))), ids=("indirect", "assembler"))
+    "".join(f".globl g{n}\n.type g{n}, @function\ng{n}: ret\n.size g{n}, 1\n" for n in range(9)),
+    "".join(f"__thread int g{n} = {n + 1};\n" for n in range(9))), ids=("indirect", "assembler", "thread-local"))
 def test_what_never_has_types_does_not_count(tmp_path: Path, second: str) -> None:
-    """Indirect functions, and functions in a unit that is written in assembler. A library that has nothing else is a yes that says so."""
+    """Indirect functions, thread-local objects, and functions in a unit that is written in assembler. A library that has nothing else is
+    a yes that says so."""
     library = two_units(tmp_path, "mixed", second, "-g")
     ended = gate("--require-types", "100", library, library)
     assert ended.out == "yes: 10 exports compared, 1 with types (100 % of the 1 that can have some)\n", ended
     (alone,) = [path for path in tmp_path.glob("mixed.[cs].o")]
     done("gcc", "-shared", "-o", tmp_path / "alone.so", alone)
     ended = gate(tmp_path / "alone.so", tmp_path / "alone.so")
-    assert ended.out == "yes: 9 exports compared, all of them indirect functions or in assembler, which have no types\n", ended
+    assert ended.out == "yes: 9 exports compared, all of them indirect functions, thread-local or in assembler, which have no types\n", ended
 
 
 def test_objects_without_types_have_advice_of_their_own(tmp_path: Path) -> None:

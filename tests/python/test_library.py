@@ -7,7 +7,7 @@ import stat
 from pathlib import Path
 
 import pytest
-from conftest import run
+from conftest import TOOLS, needs, run
 
 import abi
 
@@ -83,3 +83,30 @@ def test_faults_programs_and_time(tmp_path: Path) -> None:
         abi.check(text, text, program=tmp_path / "missing")
     with pytest.raises(abi.NoAnswer, match="within 0.2 seconds"):
         abi.check(text, text, program=program(tmp_path, "exec sleep 5"), timeout=0.2)
+
+
+def test_a_checker_of_types_knows_the_library(tmp_path: Path) -> None:
+    """As it is installed: in a folder of modules of Python, and not among the sources of a project."""
+    needs("mypy")
+    assert run("/usr/bin/python3", "-m", "venv", "--without-pip", tmp_path / "environment").status == 0
+    (modules,) = (tmp_path / "environment/lib").glob("python3*/site-packages")
+    (modules / "abi").symlink_to(TOOLS / "abi")
+    project = tmp_path / "project"
+    project.mkdir()
+    text = 'import abi\n\nwords: list[str] = [found.rule for found in abi.check("old.so", "new.so").breaks]\n'
+    wrong = "error: List comprehension has incompatible type"
+    for source, status, words in ((text, 0, "Success"), (text.replace("found.rule", "found.was"), 1, wrong)):
+        (project / "judge.py").write_text(source, encoding="utf-8")
+        ended = run("env", "-u", "MYPYPATH", "mypy", "--strict", "--cache-dir=/dev/null", "--python-executable", tmp_path / "environment/bin/python3",
+                    "judge.py", folder=project)
+        assert ended.status == status and words in ended.out, ended
+
+
+def test_notes_say_whether_they_can_break_callers(tmp_path: Path) -> None:
+    padded = "struct s { char a; int b; };\nint f(struct s *s) { return s->b; }\n"
+    old = built(tmp_path, "old", padded)
+    new = built(tmp_path, "new", padded.replace("char a;", "char a, c;") + "int more(void) { return 1; }\n")
+    answer = abi.check(old, new, notes=True)
+    assert answer.verdict is abi.Verdict.YES and answer.notes is not None
+    assert {note.kind for note in answer.notes if note.can_break_callers} == {"member in padding"}
+    assert any(note.kind == "export added" for note in answer.notes)

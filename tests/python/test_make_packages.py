@@ -191,3 +191,35 @@ def test_what_is_no_installation_of_these_sources_is_refused(made: Path, tmp_pat
 @pytest.mark.parametrize("first, second", (("2.9", "2.31"), ("2.2.5", "2.3"), ("2.31", "2.31.1"), ("2.34", "3.0")))
 def test_releases_are_ordered_by_their_numbers(first: str, second: str) -> None:
     assert release_number(first) < release_number(second)
+
+
+def test_a_packaged_program_is_of_the_crates_that_its_record_names(made: Path, tmp_path: Path) -> None:
+    """Scripts of tests refuse a program that is older than the crates; a checkout is newer than what was packaged of it."""
+    needs("git")
+    top, sources = unpacked(made, tmp_path)["tar"], tmp_path / "sources"
+    (sources / "tests").mkdir(parents=True)
+    shutil.copy(ROOT / "tests/common.bash", sources / "tests")
+    (sources / "tests/some.sh").write_text('title=some tools=sha256sum crate=abi_cli\n. "$(dirname "$0")/common.bash"\necho "$program"\n')
+    (sources / "crates").mkdir()
+    (sources / "crates/some.rt").write_text("fn some() {}\n")
+    (sources / "crates.txt").write_text("some:\n")
+    git = ("git", "-C", sources, "-c", "user.name=a", "-c", "user.email=a@example.org")
+    for words in (("init", "-q"), ("add", "."), ("commit", "-qm", "some")):
+        done(*git, *words)
+    record = top / "share/doc/abi/record.json"
+    said = {**json.loads(record.read_text()), "commit": done(*git, "rev-parse", "HEAD").strip(), "changed_since_commit": False}
+
+    def tried(**changes: object) -> Ended:
+        record.write_text(json.dumps({**said, **changes}, indent=2) + "\n")
+        return run("env", f"ABI={top / 'bin/abi'}", "bash", sources / "tests/some.sh")
+
+    assert (tried().status, tried().out) == (0, f"{top / 'bin/abi'}\n")
+    for changes in ({"changed_since_commit": True}, {"commit": None}, {"commit": "0" * 40}, {"programs_sha256": {}}):
+        ended = tried(**changes)
+        assert ended.status == 1 and "is older than" in ended.errors, ended
+    (sources / "tests/more").write_text("what is no crate\n")
+    assert tried().status == 0
+    (sources / "crates/some.rt").write_text("fn other() {}\n")
+    assert tried().status == 1
+    record.unlink()
+    assert run("env", f"ABI={top / 'bin/abi'}", "bash", sources / "tests/some.sh").status == 1

@@ -292,9 +292,21 @@ def component_holds(project: Path, archive: Path, judge: Callable[..., Ended]) -
     assert comment.startswith("### abi: no: ") and "    struct stream" in comment
     assert all(line.startswith("    ") for line in comment.splitlines()[2:])
     assert judge(old="none.abi").status == 2 and "### abi: cannot tell" in (result / "comment.md").read_text()
+    assert judge(strict="yes").status == 64 and "### abi: no answer" in (result / "comment.md").read_text()
     assert judge(types="ninety").status == 64 and "### abi: no answer" in (result / "comment.md").read_text()
     assert judge(sha256="0" * 64).status == 2
     assert judge(archive=f"file://{bare}", sha256=digest(bare)).status == 2 and "### abi: yes" not in (result / "comment.md").read_text()
+    # a structure with two bytes of padding at its end, and one that has a member there
+    changed(project / "stream.c", "int status;", "short status;")
+    done("make", "-s", "libstream.so.1", folder=project)
+    assert tool("abi-baseline", project / "libstream.so.1", project / "abi/padded.abi").status == 0
+    changed(project / "stream.c", "short status;", "short status, more;")
+    done("make", "-s", "libstream.so.1", folder=project)
+    assert judge(old="abi/padded.abi").status == 0
+    ended = judge(old="abi/padded.abi", strict="true")
+    comment = (result / "comment.md").read_text()
+    assert ended.status == 2 and "can break compiled callers: member in padding: " in comment and comment.startswith("### abi: cannot tell"), ended
+    assert not (result / "certificate").exists()
     hurt = "x; touch hurt; `touch hurt` $(touch hurt)"
     assert judge(old=hurt).status == 2 and not (project / "hurt").exists()
 
@@ -304,7 +316,7 @@ def test_the_action_of_github(project: Path, archive: Path, tmp_path: Path, monk
     needs("curl", "xz")
     action = yaml.safe_load((EXAMPLES / "github/action.yml").read_text())
     values = {"archive": f"file://{archive}", "sha256": digest(archive), "old": "abi/libstream.so.1.abi", "new": "libstream.so.1",
-              "rules": action["inputs"]["rules"]["default"], "require-types": action["inputs"]["require-types"]["default"]}
+              **{name: one["default"] for name, one in action["inputs"].items() if "default" in one}}
     assert set(values) == set(action["inputs"])
     outputs = {name: tmp_path / name for name in ("GITHUB_PATH", "GITHUB_OUTPUT", "GITHUB_STEP_SUMMARY")}
     clean = os.environ["PATH"].replace(f"{tmp_path / 'programs'}:{TOOLS}:", "")
@@ -354,10 +366,11 @@ def test_the_component_of_gitlab(project: Path, archive: Path, tmp_path: Path) -
             return re.sub(r"\$\[\[ inputs\.([a-z0-9-]+) \]\]", lambda found: given[found[1]], one)
 
         # the runner's folder for all files that are not of the project
-        script = "\n".join(put(line).replace("/tmp/", f"{tmp_path / 'runner'}/") for line in job["script"])
         shutil.rmtree(tmp_path / "runner", ignore_errors=True)
         (tmp_path / "runner").mkdir()
-        variables = [f"{name}={put(one)}" for name, one in job["variables"].items()]
+        variables = [*(f"{name}={put(one)}" for name, one in job["variables"].items()), f"TMPDIR={tmp_path / 'runner'}"]
+        script = "\n".join(map(put, job["script"]))
+        assert "/tmp" not in script
         return run("env", *variables, f"PATH={clean}", "bash", "-e", "-o", "pipefail", "-c", script, folder=project)
 
     component_holds(project, archive, judge)

@@ -7,6 +7,11 @@ from dataclasses import dataclass
 from typing import Any, Mapping, Optional, Union
 
 Json = Mapping[str, Any]
+# The kinds of notes on what can break callers that were compiled against the old library, though no rule judges it. The other kinds are
+# only told.
+CAN_BREAK_CALLERS = frozenset((
+    "array dimensions", "member in padding", "union without members", "endianity", "calling convention", "address class", "packing",
+    "enumerator sign", "defined elsewhere", "thread-local object", "object qualifiers"))
 
 
 class Verdict(enum.Enum):
@@ -76,6 +81,11 @@ class Note:
     path: Optional[str]
     was: Optional[str]
     now: Optional[str]
+
+    @property
+    def can_break_callers(self) -> bool:
+        """Whether what it names can break callers that were compiled against the old library; else it is only told."""
+        return self.kind in CAN_BREAK_CALLERS
 
 
 @dataclass(frozen=True)

@@ -12,7 +12,7 @@ from pathlib import Path
 from typing import Callable, Optional, Sequence, TextIO
 
 from abi_tools.abi_program import Abi
-from abi_tools.arguments import Arguments, add_require_types
+from abi_tools.arguments import Arguments, add_require_types, add_strict
 from abi_tools.faults import Fault
 from abi_tools.shown import line_shown
 from abi_tools.verdicts import Verdict
@@ -71,7 +71,7 @@ def _main(arguments: Sequence[str]) -> int:
         settings = Settings(os.urandom(16).hex(), str(given.old.resolve()), str(given.new.resolve()), str(store.folder),
                             None if given.rules is None else str(given.rules.resolve()), program_digest(abi.path),
                             given.require_types, limits, reports=None if given.reports is None else Reports.into(given.reports),
-                            rules_digest=OF_NOTHING if given.rules is None else digest_of_file(given.rules))
+                            rules_digest=OF_NOTHING if given.rules is None else digest_of_file(given.rules), is_strict=given.strict)
         os.environ["ABI"] = abi.path
         if settings.reports is not None:
             os.environ["ABI_JSON"] = json_program()
@@ -97,6 +97,7 @@ def _parser() -> Arguments:
                         help="make a page of abi-report on each library that may not be replaced, and keep it in DIR; this needs abi-json: "
                              "the one that the variable ABI_JSON names, or else the one on the PATH")
     add_require_types(parser)
+    add_strict(parser)
     parser.add_argument("--workers", type=limit_of, default=processors(), metavar="N",
                         help="how many workers to start on this machine (default: one for each processor)")
     parser.add_argument("--dashboard", action="store_true",
@@ -157,7 +158,7 @@ def _head(given: argparse.Namespace, settings: Settings) -> Json:
     """What the tables say about the run itself."""
     named = {} if given.rules is None else {"rules_file": str(given.rules)}
     return {"version": 2, "old": str(given.old), "new": str(given.new), "rules": settings.rules_digest, **named, "program": settings.program,
-            "tools": settings.tools, "require_types": settings.least_share}
+            "tools": settings.tools, "require_types": settings.least_share, "strict": settings.is_strict}
 
 
 def _do(run: Run, tasks: Sequence[Task], what: str) -> None:

@@ -19,6 +19,7 @@ from abi_tools.faults import Fault
 from abi_tools.gates import Judgement, judge
 from abi_tools.package_judging import settled
 from abi_tools.package_sides import Pair, package_rules
+from abi_tools.side_notes import NOT_MADE
 from abi_tools.verdicts import Verdict
 from abi_release import workers
 from abi_release.digests import (OF_NOTHING, TOOLS, digest_of_file, digest_of_files, digest_of_json, known_digest, program_digest,
@@ -38,7 +39,7 @@ DIED = "the worker died over it"
 # How many broken exports of a library are kept, to compare them with what other packages import.
 _MOST_BROKEN = 10_000
 # Members of a result that are no part of a line: what it rests on besides the digests of the files, and which files it has.
-_GROUND = ("program", "tools", "least_share", "files")
+_GROUND = ("program", "tools", "least_share", "strict", "files")
 # Members of a line that come from its packages; the others come from its result.
 _OF_PACKAGES = ("library", "soname", "rule_file", "unjoined", "doubt", "result")
 # Members of a yes that a line does not have if its packages leave it in doubt.
@@ -51,7 +52,7 @@ OF_RUN = "run"
 class Settings:
     """What is the same for all packages of a run: a mark that no other run has, both folders and that of results, the rule file, the
     digest of the program, the share of exports that must have types, the limits of each process, the digest of the tools, where the
-    pages of `abi-report` go, if they are wanted, and the digest of the rule file."""
+    pages of `abi-report` go, if they are wanted, the digest of the rule file, and whether notes on what can break callers count."""
 
     run: str
     old: str
@@ -64,6 +65,7 @@ class Settings:
     tools: str = TOOLS
     reports: Optional[Reports] = None
     rules_digest: str = OF_NOTHING
+    is_strict: bool = False
 
     def places(self, work: Work) -> tuple[tuple[Path, ...], tuple[Path, ...]]:
         """The files of both sides."""
@@ -174,7 +176,7 @@ def identity_of(work: Work, settings: Settings) -> tuple[str, ...]:
     """What the record of two packages rests on: the digests of both sides, of the rule file, of the program and of the tools, and the
     settings that change results."""
     return (*(digest_of_files(places) for places in settings.places(work)), settings.rules_digest, settings.program, settings.tools,
-            str(settings.least_share), *work.only)
+            str(settings.least_share), str(settings.is_strict), *work.only)
 
 
 class Rules(NamedTuple):
@@ -302,12 +304,12 @@ class _Task:
         old, new, rules = (*inputs.digests, OF_NOTHING)[:3]
         _check_rules(self.settings, rules)
         ground = {"digests": {"old": old, "new": new, "rules": rules}, "program": self.settings.program, "tools": self.settings.tools,
-                  "least_share": self.settings.least_share}
+                  "least_share": self.settings.least_share, "strict": self.settings.is_strict}
         place = result_name(digest_of_json(ground))
         result = self.store.result(place)
         if result is None or any(result.get(key) != value for key, value in ground.items()):
             abi = LimitedAbi(packages.folder, self.settings.limits)
-            judgement = settled(judge(abi, *files, rule_file, self.settings.least_share))
+            judgement = settled(judge(abi, *files, rule_file, self.settings.least_share, self.settings.is_strict))
             if abi.trouble or not _is_lasting(judgement):
                 raise Trouble(abi.trouble or "; ".join(judgement.reasons))
             result = {**ground, **_said(judgement), "measured": {"seconds": round(abi.seconds, 3), "megabytes": round(abi.megabytes, 1)}}
@@ -340,7 +342,9 @@ class _Inputs:
 def _is_lasting(judgement: Judgement) -> bool:
     """Whether a judgement is a verdict on what both files say, or a fault that `abi` names."""
     answer = judgement.answer
-    return answer is not None and (answer.status == FAULT or answer.status in (YES, NO) and judgement.old is not None)
+    if answer is None or NOT_MADE in judgement.reasons:
+        return False
+    return answer.status == FAULT or answer.status in (YES, NO) and judgement.old is not None
 
 
 def _one_sided(pair: Pair) -> Json:
@@ -371,6 +375,8 @@ def _said(judgement: Judgement) -> Json:
     said: Json = {"answer": judgement.verdict.words()}
     if judgement.reasons:
         said["reasons"] = list(judgement.reasons)
+    if judgement.notes:
+        said["notes"] = list(judgement.notes)
     if judgement.verdict == Verdict.YES:
         said["compared"], said["typed"] = judgement.compared, judgement.typed
     if judgement.old is not None and judgement.new is not None:

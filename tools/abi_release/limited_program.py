@@ -16,7 +16,7 @@ from dataclasses import dataclass
 from pathlib import Path
 from typing import IO, Optional, Sequence
 
-from abi_tools.abi_program import NO, Abi, Answer
+from abi_tools.abi_program import NO, Abi, Answer, environment
 from abi_tools.faults import ENDED_BY_SIGNAL, Fault
 
 # GNU time. Linux counts the memory of Python itself for a process that Python starts, so a small process starts `abi`.
@@ -96,25 +96,25 @@ class LimitedAbi(Abi):
         self.megabytes = 0.0
         self.trouble = ""
 
-    def check(self, old: Path, new: Path, rules: Optional[Path]) -> Answer:
+    def check(self, old: Path, new: Path, rules: Optional[Path], with_notes: bool = False) -> Answer:
         """Runs `abi check`: may the new library replace the old one? On yes or no, the same shell also runs `abi exports` on both, and
         the answers are kept for `run`: for small libraries, starting three processes for each run takes longer than the run."""
         options = [] if rules is None else [f"--rules={rules}"]
         runs = [("check", *options, "--", str(old), str(new)), *(("exports", "--", str(library)) for library in (old, new))]
-        answers = self._answers(runs)
+        answers = self._answers(runs, with_notes)
         self._known = dict(zip(runs[1:], answers[1:]))
         return self._told(answers[0])
 
-    def run(self, *arguments: str) -> Answer:
+    def run(self, *arguments: str, with_notes: bool = False) -> Answer:
         """Runs the program with these arguments, or returns the answer that `check` kept."""
         known = self._known.pop(arguments, None)
-        return self._told(known or self._answers([arguments])[0])
+        return self._told(known or self._answers([arguments], with_notes)[0])
 
     def _told(self, answer: Answer) -> Answer:
         self.trouble = self.trouble or self._trouble(answer)
         return answer
 
-    def _answers(self, runs: Sequence[tuple[str, ...]]) -> list[Answer]:
+    def _answers(self, runs: Sequence[tuple[str, ...]], with_notes: bool) -> list[Answer]:
         """The answers of several runs. If one answers neither yes nor no, those after it are left out."""
         limits = self._limits
         mark = os.urandom(16).hex()
@@ -127,7 +127,7 @@ class LimitedAbi(Abi):
         command = [_TIME, "--quiet", "--format=%U %S %M", f"--output=/proc/self/fd/{took.fileno()}", "/bin/sh", "-c", script]
         try:
             with subprocess.Popen(command, stdin=_LIFE.fileno(), stdout=out, stderr=errors, cwd=self.folder,
-                                  start_new_session=True, pass_fds=[took.fileno()]) as process:
+                                  start_new_session=True, pass_fds=[took.fileno()], env=environment(with_notes)) as process:
                 status = self._waited(process)
             if status != 0:
                 self._end_group(process.pid)

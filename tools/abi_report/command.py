@@ -5,7 +5,7 @@ from __future__ import annotations
 from pathlib import Path
 from typing import Sequence
 
-from abi_tools.arguments import Arguments, add_require_types
+from abi_tools.arguments import Arguments, add_require_types, add_strict
 from abi_tools.faults import Fault
 from abi_tools.output_file import clear_output
 
@@ -38,7 +38,7 @@ def main(arguments: Sequence[str]) -> int:
     if given.rules is not None:
         # a rule file that cannot be opened ends the run with the words of the system
         given.rules.open("rb").close()
-    with AbiJson().started(given.old, given.new, given.rules, not (given.fast or given.quiet)) as running:
+    with AbiJson().started(given.old, given.new, given.rules, given.strict or not (given.fast or given.quiet)) as running:
         digests = None if given.quiet or given.format == "text" else Digests(inputs)
         # The program judges while Python imports the rest of this tool and begins to read the libraries.
         from abi_report.reporting import Wanted, reported
@@ -46,7 +46,7 @@ def main(arguments: Sequence[str]) -> int:
 
         headers = Headers.of(given.headers, given.dev)
         wanted = Wanted(given.old, given.new, headers, given.require_types, given.certificate, given.format, given.quiet,
-                        given.all, not (given.fast or given.quiet or given.rules))
+                        given.all, not (given.fast or given.quiet or given.rules), given.strict)
         return int(reported(running, digests, wanted))
 
 
@@ -68,6 +68,7 @@ def _parser() -> Arguments:
                         help="text: have a line for each member, also for those that one change moved together (the page has them behind a click)")
     parser.add_argument("--quiet", action="store_true", help="print only the answer, in one line")
     add_require_types(parser)
+    add_strict(parser)
     parser.add_argument("--certificate", type=Path, metavar="FILE", help="keep the certificate of a yes in this file")
     parser.add_argument("old", type=Path, metavar="OLD", help="the library that programs were built against")
     parser.add_argument("new", type=Path, metavar="NEW", help="the build that is to replace it")

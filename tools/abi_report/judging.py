@@ -2,13 +2,15 @@
 
 from __future__ import annotations
 
-from dataclasses import dataclass
+from dataclasses import dataclass, replace
 from pathlib import Path
 from typing import Callable, Optional, TypeVar
 
+from abi.answers import CAN_BREAK_CALLERS
 from abi_tools.abi_program import NO, YES, Abi, Answer
 from abi_tools.faults import Fault
 from abi_tools.gates import Library, judge_answer, share_words
+from abi_tools.side_notes import NOT_MADE, Weighty
 from abi_tools.verdicts import Verdict
 
 from abi_report.documents import Break, Document
@@ -53,6 +55,19 @@ def judge_document(document: Document, old: Path, new: Path, least_share: float)
         return Judged(judgement.verdict, judgement.reasons)
     share = share_words(judgement.compared, judgement.counting, judgement.typed)
     return Judged(judgement.verdict, judgement.reasons, judgement.compared, judgement.typed, share)
+
+
+def judge_strictly(judged: Judged, document: Document) -> Judged:
+    """The verdict as `abi-gate --strict` has it: a yes with notes on what can break compiled callers is none."""
+    reason = _strict_reason(document) if judged.verdict == Verdict.YES else ""
+    return replace(judged, verdict=Verdict.CANNOT_TELL, reasons=(reason,)) if reason else judged
+
+
+def _strict_reason(document: Document) -> str:
+    if document.whole.get("side_notes") is None:
+        return NOT_MADE
+    found = tuple(f"{note.kind}: {note.text}" for note in document.notes if note.kind in CAN_BREAK_CALLERS)
+    return Weighty(found, len(found)).reason() if found else ""
 
 
 def _unread(path: Path) -> str:

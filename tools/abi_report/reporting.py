@@ -12,7 +12,7 @@ from abi_tools.output_file import write_whole
 from abi_tools.verdicts import Verdict
 
 from abi_report.documents import Document, read_document
-from abi_report.judging import judge_document
+from abi_report.judging import judge_document, judge_strictly
 from abi_report.reports import Report
 from abi_report.rule_sections import Headers
 from abi_report.runs import Digests, Running
@@ -26,8 +26,8 @@ _OPENED = 2
 @dataclass(frozen=True)
 class Wanted:
     """What the arguments ask for: both libraries, the public headers, the least share of exports with types, the file for
-    the certificate, the form, whether to print the answer alone, whether the text has a line for each member that another change only moved, and
-    whether exports are searched for that the document does not name."""
+    the certificate, the form, whether to print the answer alone, whether the text has a line for each member that another change only moved,
+    whether exports are searched for that the document does not name, and whether notes on what can break callers count."""
 
     old: Path
     new: Path
@@ -38,6 +38,7 @@ class Wanted:
     quiet: bool
     is_whole: bool = False
     searches: bool = False
+    is_strict: bool = False
 
 
 def reported(running: Running, digests: Optional[Digests], wanted: Wanted) -> Verdict:
@@ -51,6 +52,8 @@ def reported(running: Running, digests: Optional[Digests], wanted: Wanted) -> Ve
     if digests is not None:
         _put_digests(document, digests)
     judged = judge_document(document, wanted.old, wanted.new, wanted.require_types)
+    if wanted.is_strict:
+        judged = judge_strictly(judged, document)
     report = Report(document, judged, libraries, wanted.headers, wanted.searches)
     if wanted.certificate is not None and judged.verdict == Verdict.YES:
         write_whole(wanted.certificate, document.text.encode())

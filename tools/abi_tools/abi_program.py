@@ -10,6 +10,7 @@ from pathlib import Path
 from typing import Optional
 
 from abi_tools.faults import Fault, said_of_signal
+from abi_tools.side_notes import ASKED_BY
 
 YES = 0
 NO = 1
@@ -82,17 +83,17 @@ class Abi:
         self.path = os.path.abspath(found)
         self.folder = folder
 
-    def run(self, *arguments: str) -> Answer:
-        """Runs the program with these arguments."""
+    def run(self, *arguments: str, with_notes: bool = False) -> Answer:
+        """Runs the program with these arguments. `with_notes` asks for notes on what no rule judges; else the environment decides."""
         ended = subprocess.run([self.path, *arguments], stdin=subprocess.DEVNULL, capture_output=True, check=False,
-                               cwd=self.folder)
+                               cwd=self.folder, env=environment(with_notes))
         text, notes = (part.decode("utf-8", "surrogateescape") for part in (ended.stdout, ended.stderr))
         return Answer(ended.returncode, text, notes)
 
-    def check(self, old: Path, new: Path, rules: Optional[Path]) -> Answer:
+    def check(self, old: Path, new: Path, rules: Optional[Path], with_notes: bool = False) -> Answer:
         """Runs `abi check`: may the new library replace the old one?"""
         options = [] if rules is None else [f"--rules={rules}"]
-        return self.run("check", *options, "--", str(old), str(new))
+        return self.run("check", *options, "--", str(old), str(new), with_notes=with_notes)
 
     def exports(self, library: Path) -> list[Export]:
         """The exports of a library. Raises a fault, in the program's words, if the library cannot be read."""
@@ -100,6 +101,11 @@ class Abi:
         if answer.status != _DONE:
             raise Fault(answer.why())
         return [_export(line) for line in answer.text.splitlines()]
+
+
+def environment(with_notes: bool) -> Optional[dict[str, str]]:
+    """The environment of a run, if it is not that of this process."""
+    return {**os.environ, ASKED_BY: "1"} if with_notes else None
 
 
 def _export(line: str) -> Export:

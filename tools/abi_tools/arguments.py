@@ -41,9 +41,16 @@ def add_require_types(parser: argparse.ArgumentParser) -> None:
     """Adds the option that says how many exports must have types, with the default of all tools."""
     parser.add_argument("--require-types", type=share, default=DEFAULT_SHARE, metavar="SHARE",
                         help=f"the percentage of the compared exports that must have types in both libraries (default: {DEFAULT_SHARE:g}; "
-                             "with 0, one export must). Exports that never have types do not count: indirect functions (ifunc), functions "
-                             "in units of assembler, and symbols of size 0 without an entry, as linker scripts, and assembler without "
-                             ".size, make them")
+                             "with 0, one export must). Exports that never have types do not count: indirect functions (ifunc), "
+                             "thread-local objects, functions in units of assembler, and symbols of size 0 without an entry, as linker "
+                             "scripts, and assembler without .size, make them")
+
+
+def add_strict(parser: argparse.ArgumentParser) -> None:
+    """Adds the option that makes a yes with some notes no yes."""
+    parser.add_argument("--strict", action="store_true",
+                        help="do not say yes if abi has a note on what no rule judges and what can break compiled callers, such as a member "
+                             "that takes the place of padding: it cannot tell, and the notes are printed")
 
 
 def number_above_0(text: str) -> int:

@@ -9,7 +9,7 @@ from pathlib import Path
 from typing import Optional, Sequence
 
 from abi_tools.abi_program import Abi
-from abi_tools.arguments import Arguments, ShowLimits, add_require_types, number_above_0
+from abi_tools.arguments import Arguments, ShowLimits, add_require_types, add_strict, number_above_0
 from abi_tools.faults import Fault
 from abi_tools.gate_documents import Run
 from abi_tools.gate_inputs import Inputs, Pair, file_names, first_fault, name_of, paired
@@ -36,7 +36,7 @@ Exit status:
   1   no: the report of abi is printed, and on standard error the command that shows the changed types
   2   it cannot tell, and a line says why: an input is refused, missing, no file or too large, a limit of memory or time ended the work,
       exports lost their types with the debug information (stripped, -g1), nothing was compared, no types were compared, or fewer than
-      --require-types asks for
+      --require-types asks for; with --strict also if notes name what can break compiled callers
   64  the arguments are wrong
 """
 _USAGE = "abi-gate [OPTION].. OLD NEW, abi-gate [OPTION].. BASELINES NEW.., or abi-gate [OPTION].. OLD.. -- NEW.."
@@ -67,6 +67,7 @@ def _parser() -> Arguments:
     parser.usage = _USAGE
     parser.add_argument("--rules", type=Path, metavar="FILE", help="a rule file of abi, which says what is not compared")
     add_require_types(parser)
+    add_strict(parser)
     parser.add_argument("--certificate", type=Path, metavar="FILE", help="keep the certificate of a yes in this file")
     parser.add_argument("--certificates", type=Path, metavar="FOLDER", help="keep the certificate of each yes in this folder")
     parser.add_argument("--reports", type=Path, metavar="FOLDER",
@@ -154,7 +155,8 @@ def _judged(given: argparse.Namespace, files: _Files) -> list[Outcome]:
         reason = f"there is no file {old}: `abi-baseline LIBRARY FILE` keeps the interface of a released library in a file"
         return [Outcome(Verdict.CANNOT_TELL.words(), name_of(new), old, new, reason)]
     inputs = Inputs([Pair(name_of(old), old, new)]) if files.is_single else paired(files.old, files.new)
-    judging = Judging(Abi(), given.rules, given.require_types, tuple(map(read_symbols, given.symbols)), _limits(given), given.workers)
+    judging = Judging(Abi(), given.rules, given.require_types, given.strict, tuple(map(read_symbols, given.symbols)), _limits(given),
+                      given.workers)
     return judging.outcomes(inputs)
 
 
@@ -166,7 +168,7 @@ def _kept(given: argparse.Namespace, outcomes: list[Outcome]) -> list[Outcome]:
     """The outcomes with what is kept beside them: certificates, reports and places in the source."""
     names = file_names([one.name for one in outcomes])
     options = [*(["--headers", str(given.headers)] if given.headers else []), *(word for one in given.dev for word in ("--dev", str(one))),
-               "--require-types", f"{given.require_types:g}"]
+               "--require-types", f"{given.require_types:g}", *(["--strict"] if given.strict else [])]
     beside = Beside(tuple(options), given.rules, _limits(given), given.workers)
     for folder, suffix in ((given.certificates, "cert"), (given.reports, "html")):
         for name in names.values() if folder is not None else ():

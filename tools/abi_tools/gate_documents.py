@@ -13,6 +13,7 @@ from xml.etree import ElementTree
 from abi_tools import VERSION
 from abi_tools.gate_outcomes import GONE, LEFT_OUT, NEW, Break, Grown, Outcome
 from abi_tools.shown import line_shown, lines_shown, name_shown
+from abi_tools.side_notes import PREFIX
 from abi_tools.verdicts import Verdict
 
 Json = dict[str, Any]
@@ -84,8 +85,13 @@ def _library(one: Outcome) -> Json:
     return {"name": _text(one.name), "answer": one.word, "old": _path(one.old), "new": _path(one.new), "said": line_shown(one.said),
             **{name: count if one.verdict == Verdict.YES else None for name, count in counts.items()},
             "breaks": [_break(found) for found in one.breaks], "remarks": [line_shown(remark) for remark in one.remarks],
-            "grown": [_grown(found) for found in one.grown],
+            "grown": [_grown(found) for found in one.grown], "notes": _notes(one),
             "certificate": _path(one.certificate), "report": _path(one.report), "no_report": line_shown(one.no_report)}
+
+
+def _notes(one: Outcome) -> list[str]:
+    """The notes for which a strict gate cannot tell."""
+    return [line_shown(note.removeprefix(PREFIX)) for note in one.notes] if one.verdict == Verdict.CANNOT_TELL else []
 
 
 def _break(found: Break) -> Json:
@@ -111,7 +117,7 @@ def _case(one: Outcome, rules: Optional[Path]) -> ElementTree.Element:
         child = ElementTree.SubElement(case, "failure", {"message": message, "type": one.word})
         child.text = _xml("\n".join([*(found.row for found in one.breaks), where]).strip())
     elif one.verdict == Verdict.CANNOT_TELL:
-        ElementTree.SubElement(case, "error", {"message": message, "type": one.word}).text = message
+        ElementTree.SubElement(case, "error", {"message": message, "type": one.word}).text = _xml("\n".join([message, *_notes(one)]))
     elif one.word in (NEW, LEFT_OUT):
         ElementTree.SubElement(case, "skipped", {"message": f"{one.word}: {message}"})
     output = [f"{one.word}: {one.said}"] if one.verdict == Verdict.YES else []

@@ -15,6 +15,7 @@ from abi_tools.gate_inputs import Inputs, Named, Pair, trouble_of
 from abi_tools.gates import Judgement, judge
 from abi_tools.jobs import Failure, StepLimits, Steps
 from abi_tools.shown import line_shown, name_shown
+from abi_tools.side_notes import PREFIX
 from abi_tools.symbols_files import SymbolsFile
 from abi_tools.verdicts import Verdict
 
@@ -107,12 +108,13 @@ class Outcome:
 
 @dataclass(frozen=True)
 class Judging:
-    """How libraries are judged: the program, the rule file, the share of exports that must have types, the files of symbols, and the
-    limits of each process."""
+    """How libraries are judged: the program, the rule file, the share of exports that must have types, whether notes on what can break
+    callers count, the files of symbols, and the limits of each process."""
 
     abi: Abi
     rules: Optional[Path]
     least_share: float
+    is_strict: bool
     symbols: tuple[SymbolsFile, ...]
     limits: StepLimits
     workers: int
@@ -131,7 +133,7 @@ class Judging:
         trouble = trouble_of(pair.old) or trouble_of(pair.new)
         if trouble:
             return _cannot_tell(pair, trouble)
-        judgement = judge(self.abi, pair.old, pair.new, self.rules, self.least_share)
+        judgement = judge(self.abi, pair.old, pair.new, self.rules, self.least_share, self.is_strict)
         return replace(_outcome_of(pair, judgement), remarks=tuple(self._remarks(pair, judgement)))
 
     def _remarks(self, pair: Pair, judgement: Judgement) -> Iterator[str]:
@@ -150,7 +152,7 @@ def _outcome_of(pair: Pair, judgement: Judgement) -> Outcome:
         return replace(found, said="; ".join(filter(None, (judgement.words(), judgement.new_needs()))))
     if judgement.verdict == Verdict.NO and answer is not None:
         return replace(found, said=counted(len(answer.rows), "break"), breaks=tuple(map(Break.of_row, answer.rows)))
-    return replace(found, said="; ".join(judgement.reasons), notes=())
+    return replace(found, said="; ".join(judgement.reasons), notes=tuple(f"{PREFIX}{note}" for note in judgement.notes))
 
 
 def _cannot_tell(pair: Pair, reason: str) -> Outcome:

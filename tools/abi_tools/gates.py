@@ -7,7 +7,8 @@ yes says little, and a no may come from the missing types alone.
 from __future__ import annotations
 
 import math
-from dataclasses import dataclass
+import os
+from dataclasses import dataclass, replace
 from functools import cached_property
 from pathlib import Path
 from typing import Iterable, Optional, Sequence
@@ -18,6 +19,7 @@ from abi_tools.debug_levels import Levels
 from abi_tools.elf_files import ElfFile
 from abi_tools.faults import Fault
 from abi_tools.file_needs import FileNeeds
+from abi_tools.side_notes import ASKED_BY, NOT_MADE, weighty, without_notes
 from abi_tools.verdicts import DEFAULT_SHARE, Verdict
 
 # How many exports without types a reason names.
@@ -27,7 +29,8 @@ _UNDESCRIBED = ("what is defined in assembler, or in a unit that is built withou
                 "with -g")
 # The kinds of exports whose types are found by their code; all others are objects.
 _FUNCTIONS = ("FUNC", "NOTYPE")
-_INDIRECT = "IFUNC"
+# The kinds of exports that never have types: debug information has no address for thread-local objects, and indirect functions return one.
+_UNTYPED = ("IFUNC", "TLS")
 
 
 @dataclass(frozen=True)
@@ -70,8 +73,9 @@ class Library:
         return self.levels.has_types
 
     def never_has_types(self, export: Export) -> bool:
-        """Whether it is known that no debug information has a type of an export: it is an indirect function, or written in assembler."""
-        return export.kind == _INDIRECT or (export.kind in _FUNCTIONS and self.levels.assembler.has(self.values[export.number]))
+        """Whether it is known that no debug information has a type of an export: it is an indirect function, a thread-local object, or
+        written in assembler."""
+        return export.kind in _UNTYPED or (export.kind in _FUNCTIONS and self.levels.assembler.has(self.values[export.number]))
 
     def typed_count(self) -> tuple[int, int]:
         """How many of the exports with a size above 0 have types, and how many such exports there are."""
@@ -82,7 +86,8 @@ class Library:
 @dataclass(frozen=True)
 class Judgement:
     """A verdict, the reasons if the gate cannot tell, the answer of `abi`, how many exports were compared, how many of them have types in
-    both libraries, both libraries if they could be read, and how many of the compared exports can have types (all, if it is not said)."""
+    both libraries, both libraries if they could be read, how many of the compared exports can have types (all, if it is not said), and
+    the notes for which a strict gate cannot tell."""
 
     verdict: Verdict
     reasons: tuple[str, ...]
@@ -92,6 +97,7 @@ class Judgement:
     old: Optional[Library] = None
     new: Optional[Library] = None
     counted: Optional[int] = None
+    notes: tuple[str, ...] = ()
 
     @property
     def counting(self) -> int:
@@ -101,7 +107,7 @@ class Judgement:
     def words(self) -> str:
         """What was compared, in words."""
         if self.compared and not self.counting:
-            return f"{self.compared} exports compared, all of them indirect functions or in assembler, which have no types"
+            return f"{self.compared} exports compared, all of them indirect functions, thread-local or in assembler, which have no types"
         return f"{self.compared} exports compared, {self.typed} with types{share_words(self.compared, self.counting, self.typed)}"
 
     def new_needs(self) -> str:
@@ -121,10 +127,16 @@ def share_words(compared: int, counting: int, typed: int) -> str:
     return f" ({math.floor(1000 * typed / counting) / 10:g} % of the {counting} that can have some)"
 
 
-def judge(abi: Abi, old_path: Path, new_path: Path, rules: Optional[Path], least_share: float = DEFAULT_SHARE) -> Judgement:
+def judge(abi: Abi, old_path: Path, new_path: Path, rules: Optional[Path], least_share: float = DEFAULT_SHARE,
+          is_strict: bool = False) -> Judgement:
     """The verdict on two libraries. At least `least_share` percent of the compared exports must have types. If `abi` refuses an input
-    or dies, the gate cannot tell."""
-    answer = abi.check(old_path, new_path, rules)
+    or dies, the gate cannot tell. A strict gate cannot tell either if `abi` said yes and has a note on what can break compiled callers."""
+    judgement = _judged(abi, abi.check(old_path, new_path, rules, is_strict), old_path, new_path, least_share)
+    return _strictly(judgement) if is_strict else judgement
+
+
+def _judged(abi: Abi, answer: Answer, old_path: Path, new_path: Path, least_share: float) -> Judgement:
+    """The verdict on two libraries, from the answer of `abi`."""
     if not answer.is_answer:
         return Judgement(Verdict.CANNOT_TELL, (answer.why(),), answer)
     try:
@@ -137,6 +149,20 @@ def judge(abi: Abi, old_path: Path, new_path: Path, rules: Optional[Path], least
 def judge_answer(answer: Answer, old: Library, new: Library, least_share: float = DEFAULT_SHARE) -> Judgement:
     """The same verdict, from an answer yes or no of `abi` and from both libraries."""
     return _of_no(answer, old, new) if answer.status == NO else _of_yes(answer, old, new, least_share)
+
+
+def _strictly(judgement: Judgement) -> Judgement:
+    """The judgement of a strict gate. Notes that only this gate asked for are left out of the answer."""
+    answer = judgement.answer
+    assert answer is not None
+    found = weighty(answer.notes)
+    if os.environ.get(ASKED_BY) != "1":
+        judgement = replace(judgement, answer=replace(answer, notes=without_notes(answer.notes)))
+    if judgement.verdict != Verdict.YES or found is not None and not found.count:
+        return judgement
+    if found is None:
+        return replace(judgement, verdict=Verdict.CANNOT_TELL, reasons=(NOT_MADE,))
+    return replace(judgement, verdict=Verdict.CANNOT_TELL, reasons=(found.reason(),), notes=found.printed)
 
 
 def _of_yes(answer: Answer, old: Library, new: Library, least_share: float) -> Judgement:
@@ -162,7 +188,8 @@ def _of_yes(answer: Answer, old: Library, new: Library, least_share: float) -> J
 
 def _counts(old: Library, new: Library, one: Export, two: Export) -> bool:
     """Whether an export counts for the share of those with types. Debug information never has a type of an indirect function, of a
-    function in assembler, and of a symbol that a linker script, or assembler without `.size`, makes: it has the size 0 and no entry."""
+    thread-local object, of a function in assembler, and of a symbol that a linker script, or assembler without `.size`, makes: it has
+    the size 0 and no entry."""
     return not (old.never_has_types(one) or new.never_has_types(two)) and (one.size > 0 or old.has_types(one))
 
 
@@ -231,6 +258,6 @@ def _without_types(old: Library, new: Library, counting: Sequence[object]) -> st
     if not counting:
         return (f"all exports of {old.path} have size 0, as in assembler without .size, and no types"
                 if all(not export.size for export in old.exports.values()) else
-                f"all exports of {old.path} are indirect functions, in assembler, or of size 0 and without types")
+                f"all exports of {old.path} are indirect functions, thread-local, in assembler, or of size 0 and without types")
     untyped = [library for library in (old, new) if not library.typed_count()[0]] or [old, new]
     return ", and ".join(f"{one.path} {one.levels.reason()}" for one in untyped)

@@ -20,11 +20,10 @@ from abi_tools.joining import join_from
 from abi_tools.output_file import write_whole
 from abi_tools.package_sides import PackagedLibrary, Pair, Side, package_rules
 from abi_tools.shown import line_shown, name_shown
+from abi_tools.side_notes import PREFIX
 from abi_tools.verdicts import Verdict
 from abi_tools.verifying import Libraries, verified
 
-# The prefix of a note of `abi`.
-_NOTE = "abi: note: "
 GONE, NEW, LEFT_OUT = "gone", "new", "left out"
 # What a file name of this machine may have of a name from a package, and how long it may be.
 _UNSAFE = re.compile(r"[^A-Za-z0-9._+-]")
@@ -57,7 +56,8 @@ class Line:
 class Judging:
     """How libraries are judged: the folder `work`, in which `abi` runs; both sides; the folder for certificates; the folder for the
     joined libraries of a no, if they are kept; the rule file of the command line; the share of exports that must have types; the sonames
-    of libraries that are left out; and whether the certificates are there already and only checked."""
+    of libraries that are left out; whether the certificates are there already and only checked; and whether notes on what can break
+    callers count."""
 
     work: Path
     sides: tuple[Side, Side]
@@ -67,6 +67,7 @@ class Judging:
     least_share: float
     left_out: tuple[str, ...]
     verifies: bool = False
+    is_strict: bool = False
 
     def line_without_work(self, pair: Pair) -> Optional[Line]:
         """The line of a library that needs no comparison; None for any other."""
@@ -110,7 +111,7 @@ class Judging:
         abi, old, new = Abi(folder), Path("old", name), Path("new", name)
         if self.verifies:
             return verified(abi, Libraries(old, new, rules), self.certificates / f"{name}.cert", self.least_share)
-        return judge(abi, old, new, rules, self.least_share)
+        return judge(abi, old, new, rules, self.least_share, self.is_strict)
 
     def _keep(self, name: str, judgement: Judgement) -> Sequence[str]:
         """Keeps the certificate of a yes or the report of a no of `abi`, and removes what an earlier run kept."""
@@ -228,9 +229,10 @@ def _types(judgement: Judgement) -> list[str]:
 
 
 def _notes(judgement: Judgement) -> tuple[str, ...]:
-    """The notes of `abi` on what it saw and did not judge. It prints them if the variable ABI_NOTES asks for them."""
+    """The notes of `abi` on what it saw and did not judge. It prints them if the variable ABI_NOTES asks for them; otherwise there are
+    those for which a strict gate cannot tell."""
     lines = judgement.answer.notes.splitlines() if judgement.answer is not None else []
-    return tuple(line.removeprefix(_NOTE) for line in lines if line.startswith(_NOTE))
+    return tuple(line.removeprefix(PREFIX) for line in lines if line.startswith(PREFIX)) or judgement.notes
 
 
 def worst(lines: Sequence[Line]) -> Verdict:

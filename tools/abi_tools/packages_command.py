@@ -12,7 +12,7 @@ from functools import partial
 from pathlib import Path
 from typing import Callable, Iterator, Optional, Sequence
 
-from abi_tools.arguments import Arguments, ShowLimits, add_require_types, address, number_above_0
+from abi_tools.arguments import Arguments, ShowLimits, add_require_types, add_strict, address, number_above_0
 from abi_tools.counting import counted
 from abi_tools.debuginfod import Debuginfod
 from abi_tools.faults import Fault
@@ -60,17 +60,20 @@ def main(arguments: Sequence[str]) -> int:
         parser.error("options come before the --")
     if given.verify is not None and given.keep is not None:
         parser.error("--keep and --verify exclude each other")
+    if given.verify is not None and given.strict:
+        parser.error("--strict and --verify exclude each other: a certificate says nothing of what no rule judges")
     return int(_judge(given, [Path(name) for name in new]))
 
 
 def _parser() -> Arguments:
     parser = Arguments("abi-packages", _DESCRIPTION, _STATUSES)
-    parser.usage = ("abi-packages [--rules FILE] [--require-types SHARE] [--certificates FOLDER | --verify FOLDER] [--keep FOLDER] "
+    parser.usage = ("abi-packages [--rules FILE] [--require-types SHARE] [--strict] [--certificates FOLDER | --verify FOLDER] [--keep FOLDER] "
                     "[--leave-out SONAME].. [--debuginfod URL].. [--only KIND].. [--quiet] [--workers N] [--memory MB] [--seconds S] "
                     "(OLD.. -- NEW.. | --fetch [--mirror LINE].. [OLD.. --] NEW..)")
     parser.add_argument("--rules", type=Path, metavar="FILE",
                         help="a rule file of abi (default: usr/share/doc/PACKAGE/abi.rules of the new package, or else of the old one)")
     add_require_types(parser)
+    add_strict(parser)
     parser.add_argument("--certificates", type=Path, default=Path("abi-certificates"), metavar="FOLDER",
                         help="where to keep certificates and reports; they replace those of earlier runs on libraries with the same "
                              "sonames (default: abi-certificates)")
@@ -131,7 +134,7 @@ def _judge(given: argparse.Namespace, new: Sequence[Path]) -> Verdict:
         _refuse_unknown(given.leave_out, found)
         judging = Judging(work / "libraries", sides, given.verify or given.certificates, given.keep,
                           given.rules.resolve() if given.rules else None, given.require_types, tuple(given.leave_out),
-                          given.verify is not None)
+                          given.verify is not None, given.strict)
         lines = [*_lines(judging, found, limits, given.workers), *_left_out(sides)]
         _check_count(sides, found, lines)
     lines.sort(key=lambda line: (_ORDER.index(line.word), line.name))

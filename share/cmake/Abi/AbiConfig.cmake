@@ -5,11 +5,12 @@
 #     abi_add_test(TARGET stream)
 #   endif()
 #
-# abi_add_test(TARGET <library> [NAME <test>] [BASELINE <file>] [RULES <file>] [REQUIRE_TYPES <share>])
+# abi_add_test(TARGET <library> [NAME <test>] [BASELINE <file>] [RULES <file>] [REQUIRE_TYPES <share>] [STRICT])
 #
 #   Adds the test NAME (abi-<library>), which fails if the library may not replace the released one, or if it cannot be told. BASELINE
 #   is the released interface (abi/<library>.abi in the source folder), and RULES a rule file, which says what is not compared; both are
 #   relative to the source folder. REQUIRE_TYPES is the percentage of compared exports that must have types in both libraries (90).
+#   With STRICT the test also fails if a note names what no rule judges and what can break compiled callers.
 #   The target keep-<test> makes the baseline from the build of a release.
 #
 # If the programs are not there, Abi_FOUND is false. They are beside this file, if it is an installed one, or on the PATH.
@@ -24,9 +25,9 @@ if(NOT ABI_GATE_PROGRAM OR NOT ABI_BASELINE_PROGRAM)
 endif()
 
 function(abi_add_test)
-  cmake_parse_arguments(PARSE_ARGV 0 ABI "" "TARGET;NAME;BASELINE;RULES;REQUIRE_TYPES" "")
+  cmake_parse_arguments(PARSE_ARGV 0 ABI "STRICT" "TARGET;NAME;BASELINE;RULES;REQUIRE_TYPES" "")
   if(NOT ABI_TARGET OR ABI_UNPARSED_ARGUMENTS)
-    message(FATAL_ERROR "abi_add_test takes TARGET, NAME, BASELINE, RULES and REQUIRE_TYPES; not: ${ABI_UNPARSED_ARGUMENTS}")
+    message(FATAL_ERROR "abi_add_test takes TARGET, NAME, BASELINE, RULES, REQUIRE_TYPES and STRICT; not: ${ABI_UNPARSED_ARGUMENTS}")
   endif()
   if(NOT ABI_NAME)
     set(ABI_NAME "abi-${ABI_TARGET}")
@@ -39,13 +40,16 @@ function(abi_add_test)
   endif()
   get_filename_component(baseline "${ABI_BASELINE}" ABSOLUTE BASE_DIR "${CMAKE_CURRENT_SOURCE_DIR}")
   get_filename_component(folder "${baseline}" DIRECTORY)
-  set(rules)
+  set(options --require-types "${ABI_REQUIRE_TYPES}")
+  if(ABI_STRICT)
+    list(APPEND options --strict)
+  endif()
   if(ABI_RULES)
     get_filename_component(file "${ABI_RULES}" ABSOLUTE BASE_DIR "${CMAKE_CURRENT_SOURCE_DIR}")
-    set(rules --rules "${file}")
+    list(APPEND options --rules "${file}")
   endif()
   add_test(NAME "${ABI_NAME}"
-    COMMAND "${ABI_GATE_PROGRAM}" ${rules} --require-types "${ABI_REQUIRE_TYPES}" "${baseline}" "$<TARGET_FILE:${ABI_TARGET}>")
+    COMMAND "${ABI_GATE_PROGRAM}" ${options} "${baseline}" "$<TARGET_FILE:${ABI_TARGET}>")
   add_custom_target("keep-${ABI_NAME}"
     COMMAND "${CMAKE_COMMAND}" -E make_directory "${folder}"
     COMMAND "${ABI_BASELINE_PROGRAM}" "$<TARGET_FILE:${ABI_TARGET}>" "${baseline}"
