@@ -12,14 +12,6 @@ use Rattle.suppression_text.specs.Lines.{is_equals}
 pub count_more : (p : ℕ → Bool) (n : ℕ) → count_by p (range_with_len 0 (n + 1)) ≡ count_by p (range_with_len 0 n) + cond (p n) 1 0
 count_more p n = ap (count_by p) (below_more n) ∙ sum_by_push (λ x. cond (p x) 1 0) (range_with_len 0 n) n
 
-pub or_false : (b : Bool) → (b || false) ≡ b
-or_false true = refl
-or_false false = refl
-
-pub or_true : (b : Bool) → (b || true) ≡ true
-or_true true = refl
-or_true false = refl
-
 pub any_more : (p : ℕ → Bool) (n : ℕ) → list_any p (range_with_len 0 (n + 1)) ≡ (list_any p (range_with_len 0 n) || p n)
 any_more p n =
     ap (λ (l : List ℕ). list_any p l) (below_more n) ∙ list_any-append p (range_with_len 0 n) (n ∷ [])

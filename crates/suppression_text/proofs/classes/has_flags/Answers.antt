@@ -1,6 +1,7 @@
 use Rattle.std.proofs.Common.{◌∙◌, true, false, sym}
 use Rattle.suppression_text.specs.Classes.{begins_flags}
-use Rattle.suppression_text.proofs.ClassLemmas.{any_is, or_false, or_true}
+use Rattle.abi_base.proofs.lemmas.Bools.{or_false, or_true}
+use Rattle.suppression_text.proofs.ClassLemmas.{any_is}
 use Rattle.suppression_text.proofs.classes.has_flags.Goals as goal
 use Rattle.suppression_text.proofs.classes.has_flags.Goals.{then-are_flags, else-are_flags}
 
