@@ -4,6 +4,7 @@ from __future__ import annotations
 
 import gzip
 import io
+import itertools
 import struct
 import subprocess
 import tarfile
@@ -15,10 +16,11 @@ LIBRARY = "usr/lib/libfuzz.so.1"
 _SOURCE = "int fuzz({} a) {{ return (int) a; }}\n"
 _CONTROL = b"Package: p\nVersion: 1\nArchitecture: amd64\nMaintainer: a <a@example.org>\nDescription: a package\n"
 # The types of values in a header of rpm, and tags: a package's name and version, how its archive is packed, and its files by size, mode,
-# target of a link, folder and name.
+# target of a link, device, inode, folder and name.
 _INT16, _INT32, _STRING, _STRINGS = 3, 4, 6, 8
 _TEXTS = {1000: "p", 1001: "1", 1002: "1", 1021: "linux", 1022: "x86_64", 1124: "cpio", 1125: "gzip", 1126: "1"}
-_SIZES, _FILE_MODES, _TARGETS, _FOLDER_NUMBERS, _FILE_NAMES, _FOLDERS = 1028, 1030, 1036, 1116, 1117, 1118
+_SIZES, _FILE_MODES, _TARGETS, _DEVICES, _INODES = 1028, 1030, 1036, 1095, 1096
+_FOLDER_NUMBERS, _FILE_NAMES, _FOLDERS = 1116, 1117, 1118
 Value = Union[str, Sequence[str], Sequence[int]]
 
 
@@ -115,6 +117,8 @@ def _files(listed: Sequence[Member]) -> Iterator[tuple[int, int, Value]]:
     yield _SIZES, _INT32, [len(target) or len(one.contents) for target, one in zip(targets, members.values())]
     yield _FILE_MODES, _INT16, [_MODES.get(one.kind, 0o100644) for one in members.values()]
     yield _TARGETS, _STRINGS, targets
+    yield _DEVICES, _INT32, [1] * len(members)
+    yield _INODES, _INT32, list(itertools.accumulate((one.kind != tarfile.LNKTYPE for one in members.values()), initial=1))[1:]
     yield _FOLDER_NUMBERS, _INT32, [unique.index(folder) for folder in folders]
     yield _FILE_NAMES, _STRINGS, [name.rpartition("/")[2] for name in members]
     yield _FOLDERS, _STRINGS, unique

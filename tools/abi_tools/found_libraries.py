@@ -5,7 +5,7 @@ from __future__ import annotations
 
 from dataclasses import dataclass, field
 from pathlib import Path, PurePosixPath
-from typing import Iterator, Optional
+from typing import Optional
 
 from abi_tools.debug_files import DEBUG_FOLDER
 from abi_tools.elf_files import SHT_DYNSYM, SHT_GNU_VERDEF, SHT_GNU_VERSYM, SHT_NOBITS, SYMBOL_SIZE, ElfFile, Section
@@ -80,7 +80,7 @@ def contents_of(package: Package) -> Contents:
     to them."""
     files = [(name, file) for name, file in package.tree.files() if file.is_elf]
     found = Contents(seen=len(files))
-    linked = tuple(_linked_debug(package.tree))
+    linked = linked_debug(package.tree)
     for name, file in files:
         if name.startswith(DEBUG) and not f"{name}/".startswith(linked):
             found.others += 1
@@ -89,15 +89,20 @@ def contents_of(package: Package) -> Contents:
     return found
 
 
-def _linked_debug(tree: Tree) -> Iterator[str]:
-    """What links from outside lead to in the folder of debug information: names of files and folders, each with a slash behind."""
+def linked_debug(tree: Tree) -> tuple[str, ...]:
+    """What links from outside lead to in the folder of debug information, also by way of links in it: names of files and folders, each
+    with a slash behind."""
     if not any(name.startswith(DEBUG) for name in tree.entries):
-        return
-    for name, node in tree.entries.items():
-        if isinstance(node, Link) and not name.startswith(DEBUG):
-            target = f"{tree.resolved(name) or ''}/"
-            if target.startswith(DEBUG):
-                yield target
+        return ()
+    links = [(f"{name}/", f"{tree.resolved(name) or ''}/") for name, node in tree.entries.items() if isinstance(node, Link)]
+    inside = [(name, target) for name, target in links if target.startswith(DEBUG)]
+    found: dict[str, None] = {}
+    reached = {target for name, target in inside if not name.startswith(DEBUG)}
+    while reached:
+        found.update(dict.fromkeys(sorted(reached)))
+        starts = tuple(reached)
+        reached = {target for name, target in inside if target not in found and name.startswith(starts)}
+    return tuple(found)
 
 
 def _sort(found: Contents, package: Package, name: str, file: File) -> None:
@@ -167,7 +172,10 @@ def _sections_of(path: Path) -> tuple[Optional[_Sections], list[str]]:
     try:
         file = ElfFile(path, "it")
         symbols, versions, definitions = (_first(file, kind) for kind in (SHT_DYNSYM, SHT_GNU_VERSYM, SHT_GNU_VERDEF))
-        names = file.sections[symbols.link] if symbols is not None and symbols.link < len(file.sections) else None
+        names, version_names = (file.sections[one.link] if one is not None and one.link < len(file.sections) else None
+                                for one in (symbols, definitions))
+        if names is not None and version_names is not None and names.offset != version_names.offset:
+            return None, ["its sections have the names of its symbols and of their versions in two places"]
         empty = any(section.name == ".dynsym" and section.kind == SHT_NOBITS for section in file.sections)
         tables = tuple(None if one is None else one.offset for one in (symbols, names, versions, definitions))
         count = 0 if symbols is None else symbols.size // SYMBOL_SIZE

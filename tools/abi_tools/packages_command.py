@@ -5,7 +5,6 @@ from __future__ import annotations
 import argparse
 import os
 import sys
-import tempfile
 from collections import Counter
 from dataclasses import replace
 from functools import partial
@@ -22,6 +21,7 @@ from abi_tools.package_judging import GONE, LEFT_OUT, NEW, Judging, Line, file_n
 from abi_tools.package_sides import Pair, Side, pairs
 from abi_tools.progress import Progress
 from abi_tools.shown import line_shown, name_shown
+from abi_tools.signals import temporary_folder
 from abi_tools.unpacking import Package, unpack
 from abi_tools.verdicts import Verdict
 
@@ -123,8 +123,7 @@ def _judge(given: argparse.Namespace, new: Sequence[Path]) -> Verdict:
     elif not given.verify.is_dir():
         raise Fault(f"there is no folder {given.verify}")
     limits = StepLimits(given.memory or default_megabytes(given.workers), given.seconds)
-    with tempfile.TemporaryDirectory(prefix="abi-packages-") as folder:
-        work = Path(folder)
+    with temporary_folder("abi-packages-") as work:
         old, new = (given.old, new) if not given.fetch else _fetched(given, new, work / "fetched", limits)
         sides = _served(_sides(old, new, work, limits, given.workers), given, work / "served")
         found = pairs(*sides)
