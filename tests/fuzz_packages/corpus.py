@@ -74,12 +74,14 @@ def cpio(members: Sequence[Member]) -> bytes:
     """An archive of cpio in the form `newc`. A hard link is a second name of the file before it."""
     made = b""
     inode = 1
-    for one in (*members, Member("TRAILER!!!")):
+    last = Member("TRAILER!!!")
+    for one, following in zip((*members, last), (*members[1:], last, last)):
         is_link = one.kind == tarfile.LNKTYPE
         inode += not is_link
         contents = one.target.encode("utf-8", "surrogateescape") if one.kind == tarfile.SYMTYPE else one.contents
         name = one.name.encode("utf-8", "surrogateescape") + b"\0"
-        fields = (inode, _MODES.get(one.kind, 0o100644), 0, 0, 2 if is_link else 1, 0, len(contents), 0, 0, 0, 0, len(name), 0)
+        names = 2 if is_link or following.kind == tarfile.LNKTYPE else 1
+        fields = (inode, _MODES.get(one.kind, 0o100644), 0, 0, names, 0, len(contents), 0, 0, 0, 0, len(name), 0)
         made += b"070701" + b"".join(b"%08x" % field for field in fields) + name
         made += bytes(-len(made) % 4) + contents
         made += bytes(-len(made) % 4)

@@ -3,9 +3,11 @@ reads, its sections, must say the same."""
 
 from __future__ import annotations
 
+import bisect
 from dataclasses import dataclass, field
+from itertools import takewhile
 from pathlib import Path, PurePosixPath
-from typing import Optional
+from typing import Iterator, Optional
 
 from abi_tools.debug_files import DEBUG_FOLDER
 from abi_tools.elf_files import SHT_DYNSYM, SHT_GNU_VERDEF, SHT_GNU_VERSYM, SHT_NOBITS, SYMBOL_SIZE, ElfFile, Section
@@ -80,29 +82,46 @@ def contents_of(package: Package) -> Contents:
     to them."""
     files = [(name, file) for name, file in package.tree.files() if file.is_elf]
     found = Contents(seen=len(files))
-    linked = linked_debug(package.tree)
+    links = DebugLinks(package.tree)
     for name, file in files:
-        if name.startswith(DEBUG) and not f"{name}/".startswith(linked):
+        if name.startswith(DEBUG) and not links.lead_to(name):
             found.others += 1
         else:
             _sort(found, package, name, file)
     return found
 
 
-def linked_debug(tree: Tree) -> tuple[str, ...]:
-    """What links from outside lead to in the folder of debug information, also by way of links in it: names of files and folders, each
-    with a slash behind."""
-    if not any(name.startswith(DEBUG) for name in tree.entries):
-        return ()
-    links = [(f"{name}/", f"{tree.resolved(name) or ''}/") for name, node in tree.entries.items() if isinstance(node, Link)]
-    inside = [(name, target) for name, target in links if target.startswith(DEBUG)]
-    found: dict[str, None] = {}
-    reached = {target for name, target in inside if not name.startswith(DEBUG)}
-    while reached:
-        found.update(dict.fromkeys(sorted(reached)))
-        starts = tuple(reached)
-        reached = {target for name, target in inside if target not in found and name.startswith(starts)}
-    return tuple(found)
+class DebugLinks:
+    """What links from outside lead to in the folder of debug information, also by way of links in it."""
+
+    def __init__(self, tree: Tree) -> None:
+        """Follows the links."""
+        self._reached: set[str] = set()
+        if not any(name.startswith(DEBUG) for name in tree.entries):
+            return
+        links = [(name, f"{tree.resolved(name) or ''}/") for name, node in tree.entries.items() if isinstance(node, Link)]
+        inside = sorted((name, target) for name, target in links if name.startswith(DEBUG) and target.startswith(DEBUG))
+        waiting = [target for name, target in links if target.startswith(DEBUG) and not name.startswith(DEBUG)]
+        while waiting:
+            place = waiting.pop()
+            if place not in self._reached:
+                self._reached.add(place)
+                links_from = (inside[number] for number in range(bisect.bisect_left(inside, (place, "")), len(inside)))
+                waiting += [target for _, target in takewhile(lambda link: link[0].startswith(place), links_from)]
+
+    def __bool__(self) -> bool:
+        return bool(self._reached)
+
+    def lead_to(self, name: str) -> bool:
+        """Whether a link leads to a file, or to a folder in which it lies."""
+        return bool(self._reached) and any(f"{place}/" in self._reached for place in (name, *folders_above(name)))
+
+
+def folders_above(name: str) -> Iterator[str]:
+    """The folders that a file lies in, directly or not; the empty name is that of the root."""
+    while name:
+        name = name.rpartition("/")[0]
+        yield name
 
 
 def _sort(found: Contents, package: Package, name: str, file: File) -> None:

@@ -8,7 +8,7 @@ from functools import cached_property
 from typing import Iterator, Optional, Sequence
 
 from abi_tools.faults import Fault
-from abi_tools.found_libraries import DEBUG, PackagedLibrary, linked_debug
+from abi_tools.found_libraries import DEBUG, DebugLinks, PackagedLibrary, folders_above
 from abi_tools.limits import MOST_NAMES
 from abi_tools.package_trees import Link, Node, Tree
 
@@ -77,9 +77,9 @@ class LibraryNames:
         yield from self._files.items()
         below: dict[str, list[str]] = {}
         for name in self._files:
-            for folder in _folders_above(name):
+            for folder in folders_above(name):
                 below.setdefault(folder, []).append(name)
-        has_debug = bool(linked_debug(self._tree))
+        has_debug = bool(DebugLinks(self._tree))
         for name, node in self._tree.entries.items():
             target = self._tree.resolved(name) if isinstance(node, Link) and (has_debug or not name.startswith(DEBUG)) else None
             if target is None:
@@ -131,10 +131,3 @@ def merged_name(name: str) -> str:
     """A name as on a system on which `/lib` leads to `/usr/lib`."""
     folder, _, last = name.rpartition("/")
     return f"{merged(folder)}/{last}" if folder else last
-
-
-def _folders_above(name: str) -> Iterator[str]:
-    """The folders that a file lies in, directly or not; the empty name is that of the root."""
-    while name:
-        name = name.rpartition("/")[0]
-        yield name

@@ -5,7 +5,7 @@ from __future__ import annotations
 from typing import Iterator, Sequence
 
 from abi_tools.faults import Fault
-from abi_tools.found_libraries import DEBUG, Contents, linked_debug
+from abi_tools.found_libraries import DEBUG, Contents, DebugLinks, folders_above
 from abi_tools.library_names import MERGED, installed, merged_name
 from abi_tools.package_trees import Entry, File, Link, Node
 from abi_tools.shown import name_shown
@@ -44,11 +44,16 @@ def _refuse_folders(packages: Sequence[Package]) -> None:
     """Raises a fault if one name is that of a link and that of a folder, and ELF files or links lie in one of them."""
     entries = [(merged_name(name), node, package) for package in packages for name, node in package.tree.entries.items()]
     folders = {name for name, node, _ in entries if node is Entry.FOLDER} - {folder.rstrip("/") for folder in MERGED}
-    links = {name: package for name, node, package in entries if isinstance(node, Link) and name in folders}
-    tree = installed([package.tree for package in packages]) if links else None
-    for name, package in sorted(links.items()):
-        places = tuple(f"{place}/" for place in (name, tree.resolved(name) if tree else None) if place is not None)
-        if any(f"{one}/".startswith(places) and one != name and _matters(one, node) for one, node, _ in entries):
+    links = [(name, node, package) for name, node, package in entries if isinstance(node, Link) and name in folders]
+    if not links:
+        return
+    tree = installed([package.tree for package in packages])
+    tree.entries.update((name, node) for name, node, _ in links)
+    matter = {name for name, node, _ in entries if _matters(name, node)}
+    above = {folder for name in matter for folder in folders_above(name)}
+    both = matter | above
+    for name, _, package in links:
+        if name in above or tree.resolved(name) in both:
             raise Fault(f"{package.file} brings the link {name_shown(name)}, which is a folder of the packages, too")
 
 
@@ -58,12 +63,13 @@ def _matters(name: str, node: Node) -> bool:
 
 def _refuse_debug_links(packages: Sequence[Package], contents: Sequence[Contents]) -> None:
     """Raises a fault if a link of one package leads to what seems to be debug information of another one."""
-    if len(packages) < 2:
+    links = DebugLinks(installed([package.tree for package in packages])) if len(packages) > 1 else None
+    if not links:
         return
-    linked = linked_debug(installed([package.tree for package in packages]))
     for package, _ in zip(packages, contents):
+        own = DebugLinks(package.tree)
         for name in _debug_files(package):
-            if f"{name}/".startswith(linked) and not f"{name}/".startswith(linked_debug(package.tree)):
+            if links.lead_to(name) and not own.lead_to(name):
                 raise Fault(f"a link of another package leads to {name_shown(name)} of {package.file}, where debug information lies")
 
 
