@@ -173,3 +173,12 @@ def test_symbols_of_the_hash_table_of_the_gabi_are_counted(build: Build, tmp_pat
     ended = packages(tmp_path, *sides(tmp_path, [[Member(f"usr/lib/{SONAME}", bytes(contents))]], [whole]))
     assert ended.status == 2 and "different tables of symbols" in ended.out, ended
     assert packages(tmp_path, *sides(tmp_path, [whole], [whole])).status == 0
+
+
+def test_pairing_is_limited(library: dict[str, bytes], tmp_path: Path) -> None:
+    """Chains of links with long targets: each of 3,000 links costs 50,000 steps."""
+    far = "../" * 1300
+    members = [Member(f"usr/lib/{SONAME}", library["good"]), *(link(f"c/{number}", f"{far}c/{number + 1}") for number in range(38)),
+               *(link(f"c/a{number}", "0") for number in range(3000))]
+    ended = packages(tmp_path, "--seconds", "1", *sides(tmp_path, [members], [members]))
+    assert ended.status == 2 and ended.errors == "abi-packages: pairing the libraries took more than its limit of 1 seconds of processor time\n"

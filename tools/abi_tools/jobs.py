@@ -200,6 +200,21 @@ def _value_of(step: Callable[[], object]) -> object:
         return Failure(f"a fault of this tool: {type(error).__name__}: {error}")
 
 
+@contextlib.contextmanager
+def limited_time(seconds: int, what: str) -> Iterator[None]:
+    """Work of this process itself. Raises a fault if it takes more seconds of processor time."""
+    def stop(_number: int, _frame: object) -> None:
+        raise Fault(f"{what} took more than its limit of {seconds} seconds of processor time")
+
+    before = signal.signal(signal.SIGPROF, stop)
+    signal.setitimer(signal.ITIMER_PROF, seconds)
+    try:
+        yield
+    finally:
+        signal.setitimer(signal.ITIMER_PROF, 0)
+        signal.signal(signal.SIGPROF, before)
+
+
 def processors() -> int:
     """How many processors this process may use."""
     return len(os.sched_getaffinity(0))
