@@ -2,6 +2,7 @@
 
 from __future__ import annotations
 
+import ctypes
 import struct
 import tarfile
 from dataclasses import replace
@@ -19,6 +20,7 @@ SONAME = "libshapes.so.1"
 DEBUG = "usr/lib/debug"
 _BUILT: dict[str, bytes] = {}
 _PT_LOAD, _PT_DYNAMIC, _PT_NOTE = 1, 2, 4
+_DT_SYMTAB, _DT_GNU_HASH = 6, 0x6FFFFEF5
 
 
 @pytest.fixture
@@ -159,6 +161,34 @@ def test_addresses_in_two_segments_are_no_yes(library: dict[str, bytes], tmp_pat
     struct.pack_into("<IIQQQQQQ", doubled, at, *loaded[:2], loaded[2] + 8, *loaded[3:])
     ended = packages(tmp_path, *sides(tmp_path, [[Member(f"usr/lib/{SONAME}", good)]], [[Member(f"usr/lib/{SONAME}", bytes(doubled))]]))
     assert ended.status == 2 and ended.out.startswith(f"cannot tell {SONAME}: "), ended
+
+
+def entry_of(contents: bytes, tag: int) -> int:
+    """Where an entry of the dynamic section lies in a file."""
+    at, size = next((fields[2], fields[5]) for _, fields in segments(contents) if fields[0] == _PT_DYNAMIC)
+    return next(place for place in range(at, at + size, 16) if struct.unpack_from("<q", contents, place)[0] == tag)
+
+
+@pytest.mark.parametrize("tag", (_DT_SYMTAB, _DT_GNU_HASH))
+def test_symbols_that_the_loader_does_not_find_are_no_yes(library: dict[str, bytes], tmp_path: Path, tag: int) -> None:
+    """The dynamic section of the new library names no table of symbols, or no hash table; the sections have both."""
+    hidden = bytearray(library["good"])
+    struct.pack_into("<q", hidden, entry_of(library["good"], tag), 0x60000000)
+    for old, new in ((library["good"], bytes(hidden)), (bytes(hidden), library["good"])):
+        ended = packages(tmp_path, *sides(tmp_path, [[Member(f"usr/lib/{SONAME}", old)]], [[Member(f"usr/lib/{SONAME}", new)]]))
+        assert ended.status == 2 and f"cannot tell {SONAME}: " in ended.out and "different tables of symbols" in ended.out, ended
+
+
+@pytest.mark.parametrize("place, value", ((7, 9), (8, 1), (15, 1)))
+def test_headers_that_the_loader_refuses_are_no_yes(library: dict[str, bytes], tmp_path: Path, place: int, value: int) -> None:
+    other = bytearray(library["good"])
+    other[place] = value
+    (tmp_path / "other.so").write_bytes(other)
+    with pytest.raises(OSError):
+        ctypes.CDLL(str(tmp_path / "other.so"))
+    ended = packages(tmp_path, *sides(tmp_path, [[Member(f"usr/lib/{SONAME}", library["good"])]],
+                                      [[Member(f"usr/lib/{SONAME}", bytes(other))]]))
+    assert ended.status == 2 and "a system that the loader refuses" in ended.out, ended
 
 
 def test_symbols_of_the_hash_table_of_the_gabi_are_counted(build: Build, tmp_path: Path) -> None:

@@ -157,9 +157,9 @@ def _sort_dynamic(found: Contents, package: Package, name: str, path: Path) -> N
         troubles.append("its sections and its segments have different sonames" if soname is not None or view is not None
                         else "its segments are damaged")
         soname = soname or sections.soname
-    if view is not None and sections is not None and view.has_symbols and sections.has_symbols and not sections.agrees(view):
-        troubles.append("its sections and its segments have different tables of symbols")
     has_symbols = view is not None and view.has_symbols or sections is not None and sections.has_symbols
+    if has_symbols and view is not None and sections is not None and not sections.agrees(view):
+        troubles.append("its sections and its segments have different tables of symbols")
     file_name = PurePosixPath(name).name
     if has_symbols and (soname or _SHARED in file_name):
         size = path.stat().st_size
@@ -173,17 +173,19 @@ def _sort_dynamic(found: Contents, package: Package, name: str, path: Path) -> N
 @dataclass(frozen=True)
 class _Sections:
     """What the sections of a file say: its soname, whether it has dynamic symbols, whether it is a debug file, which has the headers of
-    the library's sections without their bytes, where the tables of symbols begin, and how many symbols there are."""
+    the library's sections without their bytes, where the tables of symbols begin, how many symbols there are, and how many up to the last
+    one that it defines for others."""
 
     soname: Optional[str]
     has_symbols: bool
     is_debug: bool
     tables: Tables
     count: int
+    defined: int
 
     def agrees(self, view: LoaderView) -> bool:
-        """Whether the loader finds its symbols in the same tables."""
-        return self.tables == view.tables and self.count >= view.hashed
+        """Whether the loader finds the same symbols in the same tables."""
+        return self.tables == view.tables and self.defined <= view.hashed <= self.count
 
 
 def _sections_of(path: Path) -> tuple[Optional[_Sections], list[str]]:
@@ -198,7 +200,7 @@ def _sections_of(path: Path) -> tuple[Optional[_Sections], list[str]]:
         empty = any(section.name == ".dynsym" and section.kind == SHT_NOBITS for section in file.sections)
         tables = tuple(None if one is None else one.offset for one in (symbols, names, versions, definitions))
         count = 0 if symbols is None else symbols.size // SYMBOL_SIZE
-        return _Sections(file.soname, symbols is not None, empty and symbols is None, tables, count), []
+        return _Sections(file.soname, symbols is not None, empty and symbols is None, tables, count, file.last_defined()), []
     except Fault as fault:
         return None, [str(fault)]
 

@@ -14,6 +14,8 @@ from abi_tools.faults import Fault
 # e_ident (gABI, "ELF Identification"): the magic bytes, the class of 64 bits and the order of little endian.
 _IDENTITY = b"\x7fELF\x02\x01"
 _ORDER_AT, _LITTLE_ENDIAN = 5, 1
+# EI_OSABI: ELFOSABI_NONE and ELFOSABI_GNU. The loader of glibc takes no others, and zeros after them.
+_IDENTITY_SIZE, _SYSTEM, _SYSTEMS = 16, 7, (0, 3)
 # The fields of the header from e_type to e_phnum, and of a program header.
 _HEADER = struct.Struct("<16xHHIQQQIHHH")
 _HEADER_SIZE = 64
@@ -88,12 +90,17 @@ class _Reader:
 
     def view(self) -> LoaderView:
         """What the loader sees."""
+        identity = self._bytes(0, _IDENTITY_SIZE)
+        if identity[_SYSTEM] not in _SYSTEMS or any(identity[_SYSTEM + 1:]):
+            raise Fault("its header names a system that the loader refuses")
         fields = _HEADER.unpack(self._bytes(0, _HEADER.size))
         at, size, count = fields[4], fields[8], fields[9]
         if size != _SEGMENT.size or count == _PN_XNUM:
             raise Fault("its program headers are damaged")
         segments = list(_SEGMENT.iter_unpack(self._bytes(at, size * count)))
         self._loaded = [(one[3], one[5], one[2]) for one in segments if one[0] == _PT_LOAD]
+        if any(offset + size > self._size for _, size, offset in self._loaded):
+            raise Fault("it is cut short: a segment extends past its end")
         dynamic = [(one[3], one[2], one[5]) for one in segments if one[0] == _PT_DYNAMIC]
         # The loader takes the last one, by its address; other programs take the first one, by its offset.
         if len(dynamic) > 1 or any(size > 0 and self._place(address) != at for address, at, size in dynamic):
