@@ -6,6 +6,7 @@ import bz2
 import gzip
 import lzma
 import tarfile
+from dataclasses import replace
 from random import Random
 from typing import Callable, Sequence
 
@@ -20,6 +21,11 @@ _USUAL = (LIBRARY, f"./{LIBRARY}", f"/{LIBRARY}", "usr/lib/libfuzz.so", "usr/lib
           "a", "b")
 _NAMES = (f"usr//lib/./{LIBRARY[8:]}", "usr/lib", "usr", "../escaped", "usr/../../escaped", "a", "b", "", ".",
           "usr/lib/\udcff\n\x1b[2J.so", "d/" * 200 + "x", "n" * 300, "n" * 5000)
+# Folders that several packages may share, and what lies in them.
+_SHARED = ("usr/lib/libfuzz.so.1", "usr/lib/b.so", "usr/lib/a", "usr/lib/a/libfuzz.so.1", "usr/lib/a/b.so", "usr/lib/c", "usr/lib/c/b.so",
+           "usr/lib/debug", "usr/lib/debug/libfuzz.so.1", "usr/lib/debug/c/libfuzz.so.1", "lib/libfuzz.so.1", "usr/lib64")
+_SHARED_TARGETS = ("libfuzz.so.1", "b.so", "a", "c", "debug", "debug/libfuzz.so.1", "debug/c", "/usr/lib/a", "/usr/lib/c/b.so",
+                   "../a/b.so", "lib", "/usr/lib/debug/c", "/lib/libfuzz.so.1")
 _TARGETS = (LIBRARY, "libfuzz.so.1", "usr/lib/a", "/usr/lib", "../lib64", "{canary}", "/../../{canary}", "{canary}/libfuzz.so.1", "a", "b", "",
             "debug", "../a", "debug/libfuzz.so.1", "/usr/lib/a/libfuzz.so.1", "/dev/zero", "/etc/passwd", "../" * 50 + "etc/passwd",
             "t" * 5000, "lib64", "usr/lib/libfuzz.so")
@@ -52,6 +58,43 @@ class Changer:
             archive = self._headers_changed(archive)
         parts = self._parts(self._bytes_changed(archive, 0.2))
         return ".deb", self._bytes_changed(deb(parts), 0.2)
+
+    def sharing(self, library: bytes) -> list[list[Member]]:
+        """The members of two packages, sound each by itself, that bring files and links in the folders of each other. Those of the first
+        one have the library."""
+        sides = [[Member(LIBRARY, contents=self._corpus.good)] if self._random.random() < 0.7 else [], []]
+        for side in sides:
+            for _ in range(self._random.choice((1, 1, 2, 3))):
+                side.append(self._shared_member(library))
+            self._random.shuffle(side)
+        return sides
+
+    def change_one(self, sides: list[list[Member]]) -> None:
+        """Changes a member of such packages: it gets the library that breaks, or other contents or another target; or one is dropped or
+        added, or goes to the other package."""
+        side = self._random.choice([one for one in sides if one])
+        at = self._random.randrange(len(side))
+        change = self._random.random()
+        files = [(one, number) for one in sides for number, member in enumerate(one) if member.kind == tarfile.REGTYPE]
+        if change < 0.4 and files:
+            side, at = self._random.choice(files)
+            side[at] = replace(side[at], contents=self._corpus.bad)
+        elif change < 0.6:
+            side[at] = replace(self._shared_member(self._corpus.bad), name=side[at].name)
+        elif change < 0.7:
+            del side[at]
+        elif change < 0.9:
+            self._random.choice(sides).append(self._shared_member(self._corpus.bad))
+        else:
+            self._random.choice(sides).append(side.pop(at))
+
+    def _shared_member(self, library: bytes) -> Member:
+        name = self._random.choice(_SHARED)
+        kind = self._random.choice((tarfile.REGTYPE, tarfile.REGTYPE, tarfile.SYMTYPE, tarfile.SYMTYPE, tarfile.LNKTYPE, tarfile.DIRTYPE))
+        if kind == tarfile.REGTYPE:
+            return Member(name, kind, self._random.choice((library, self._corpus.good)))
+        targets = _SHARED if kind == tarfile.LNKTYPE else _SHARED_TARGETS
+        return Member(name, kind, target=self._random.choice(targets) if kind != tarfile.DIRTYPE else "")
 
     def _members(self, library: bytes) -> list[Member]:
         members = [Member("./usr", tarfile.DIRTYPE), Member("./usr/lib", tarfile.DIRTYPE), Member(LIBRARY, contents=library)]

@@ -4,6 +4,7 @@ from __future__ import annotations
 
 import gzip
 import io
+import itertools
 import struct
 import subprocess
 import tarfile
@@ -15,10 +16,11 @@ LIBRARY = "usr/lib/libfuzz.so.1"
 _SOURCE = "int fuzz({} a) {{ return (int) a; }}\n"
 _CONTROL = b"Package: p\nVersion: 1\nArchitecture: amd64\nMaintainer: a <a@example.org>\nDescription: a package\n"
 # The types of values in a header of rpm, and tags: a package's name and version, how its archive is packed, and its files by size, mode,
-# target of a link, folder and name.
+# target of a link, device, inode, folder and name.
 _INT16, _INT32, _STRING, _STRINGS = 3, 4, 6, 8
 _TEXTS = {1000: "p", 1001: "1", 1002: "1", 1021: "linux", 1022: "x86_64", 1124: "cpio", 1125: "gzip", 1126: "1"}
-_SIZES, _FILE_MODES, _TARGETS, _FOLDER_NUMBERS, _FILE_NAMES, _FOLDERS = 1028, 1030, 1036, 1116, 1117, 1118
+_SIZES, _FILE_MODES, _TARGETS, _DEVICES, _INODES = 1028, 1030, 1036, 1095, 1096
+_FOLDER_NUMBERS, _FILE_NAMES, _FOLDERS = 1116, 1117, 1118
 Value = Union[str, Sequence[str], Sequence[int]]
 
 
@@ -72,12 +74,14 @@ def cpio(members: Sequence[Member]) -> bytes:
     """An archive of cpio in the form `newc`. A hard link is a second name of the file before it."""
     made = b""
     inode = 1
-    for one in (*members, Member("TRAILER!!!")):
+    last = Member("TRAILER!!!")
+    for one, following in zip((*members, last), (*members[1:], last, last)):
         is_link = one.kind == tarfile.LNKTYPE
         inode += not is_link
         contents = one.target.encode("utf-8", "surrogateescape") if one.kind == tarfile.SYMTYPE else one.contents
         name = one.name.encode("utf-8", "surrogateescape") + b"\0"
-        fields = (inode, _MODES.get(one.kind, 0o100644), 0, 0, 2 if is_link else 1, 0, len(contents), 0, 0, 0, 0, len(name), 0)
+        names = 2 if is_link or following.kind == tarfile.LNKTYPE else 1
+        fields = (inode, _MODES.get(one.kind, 0o100644), 0, 0, names, 0, len(contents), 0, 0, 0, 0, len(name), 0)
         made += b"070701" + b"".join(b"%08x" % field for field in fields) + name
         made += bytes(-len(made) % 4) + contents
         made += bytes(-len(made) % 4)
@@ -115,6 +119,8 @@ def _files(listed: Sequence[Member]) -> Iterator[tuple[int, int, Value]]:
     yield _SIZES, _INT32, [len(target) or len(one.contents) for target, one in zip(targets, members.values())]
     yield _FILE_MODES, _INT16, [_MODES.get(one.kind, 0o100644) for one in members.values()]
     yield _TARGETS, _STRINGS, targets
+    yield _DEVICES, _INT32, [1] * len(members)
+    yield _INODES, _INT32, list(itertools.accumulate((one.kind != tarfile.LNKTYPE for one in members.values()), initial=1))[1:]
     yield _FOLDER_NUMBERS, _INT32, [unique.index(folder) for folder in folders]
     yield _FILE_NAMES, _STRINGS, [name.rpartition("/")[2] for name in members]
     yield _FOLDERS, _STRINGS, unique

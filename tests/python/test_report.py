@@ -5,16 +5,19 @@ from __future__ import annotations
 import json
 import re
 from pathlib import Path
+from random import Random
 from typing import Any
 
 import jsonschema
 import pytest
 
-from conftest import abi, done, needs
-from report_support import HEADER, SCHEMA, SOURCE, Edit, Project, document, edits, report, script, stand_in
+from conftest import ROOT, abi, done, needs, run
+from report_support import HEADER, REPORT, SCHEMA, SOURCE, Edit, Project, document, edits, report, script, stand_in
 
+from abi_report import entries as entries_read
 from abi_report.blocks import merged
 from abi_report.entries import Entries
+from abi_report.reaching import circles
 from abi_report.records import Records
 from abi_report.ways import reached
 
@@ -405,6 +408,46 @@ def test_without_notes_the_exports_of_a_structure_are_searched_for(project: Proj
     (project.folder / "abi.rules").write_text("")
     for options in (["--fast"], ["--rules", project.folder / "abi.rules"]):
         assert "  reached by deflate, and perhaps by others\n" in report(*options, old, old).out
+
+
+@pytest.mark.parametrize("shape, size, found", (("crossed", (96, 3), 96), ("linked_structures", (4000, 3), 4000)))
+def test_each_of_12000_breaks_names_the_exports_that_it_reaches(tmp_path: Path, shape: str, size: tuple[int, int], found: int) -> None:
+    """In `crossed` each structure has as many functions as there are structures; linked ones all reach each other."""
+    sources = [tmp_path / f"{side}.c" for side in ("old", "new")]
+    done("/usr/bin/python3", ROOT / "tests" / "wide_changes.py", shape, *map(str, size), *sources)
+    for source in sources:
+        done("gcc", "-g", "-O1", "-w", "-shared", "-fPIC", "-Wl,-soname,libwide.so.1", "-o", source.with_suffix(".so"), source)
+    ended = run("prlimit", "--cpu=60", f"--as={1 << 30}", REPORT, tmp_path / "old.so", tmp_path / "new.so")
+    counted = re.search(r"changed: ([0-9,]+) breaks", ended.out)
+    assert ended.status == 1 and counted is not None and int(counted[1].replace(",", "")) > 12_000, ended.out[:2000] + ended.errors
+    assert "perhaps" not in ended.out
+    named = re.findall(r"\n  reached by (?:the same )?([0-9,]+) exports", ended.out)
+    assert {int(one.replace(",", "")) for one in named} == {found} and len(named) == int(ended.out.split("\n")[1].split()[0].replace(",", ""))
+
+
+def test_libraries_with_many_exports_are_read_as_others_are(project: Project, monkeypatch: pytest.MonkeyPatch) -> None:
+    """After many searches for names, all names of a unit are read instead."""
+    old, new = project.build("old"), project.build("new", HEADER.replace("unsigned avail", "long avail"))
+    before = document(old, new)
+    monkeypatch.setattr(entries_read, "_MANY", 0)
+    assert document(old, new) == before and before["report"]["types"] != []
+
+
+def test_what_reaches_each_other_is_one_circle() -> None:
+    """Against a search from each key, on graphs at random."""
+    random = Random(12)
+    for size in (1, 2, 5, 9, 30):
+        for _ in range(20):
+            graph = {(one,): [(random.randrange(size),) for _ in range(random.choice((0, 1, 1, 2)))] for one in range(size)}
+            reach = {key: {key} for key in graph}
+            for _ in graph:
+                reach = {key: found.union(*(reach[part] for one in found for part in graph[one])) for key, found in reach.items()}
+            found = circles(graph)
+            assert sorted(key for circle in found for key in circle) == sorted(graph)
+            places = {key: place for place, circle in enumerate(found) for key in circle}
+            for one in graph:
+                assert {two for two in graph if places[two] == places[one]} == {two for two in reach[one] if one in reach[two]}
+                assert all(places[two] <= places[one] for two in reach[one])
 
 
 def test_what_reaches_the_type_of_a_member_may_not_reach_the_structure(project: Project, monkeypatch: pytest.MonkeyPatch) -> None:

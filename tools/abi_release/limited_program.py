@@ -17,7 +17,8 @@ from pathlib import Path
 from typing import IO, Optional, Sequence
 
 from abi_tools.abi_program import NO, Abi, Answer, environment
-from abi_tools.faults import ENDED_BY_SIGNAL, Fault
+from abi_tools.faults import Fault
+from abi_tools.signals import ENDED_BY_SIGNAL
 
 # GNU time. Linux counts the memory of Python itself for a process that Python starts, so a small process starts `abi`.
 _TIME = "/usr/bin/time"

@@ -3,6 +3,7 @@
 from __future__ import annotations
 
 from dataclasses import dataclass, field
+from functools import cached_property
 from typing import Iterable, Optional, Sequence
 
 from abi_report.changes import Change, bit_place, change_of, moved, size_of_bits
@@ -84,13 +85,19 @@ class Block:
         one, rest = self.found[0]
         return one.steps[:len(one.steps) - len(rest)]
 
-    @property
+    def lead(self, exports: tuple[str, ...], is_searched: bool = False) -> None:
+        """Says which exports a search found."""
+        self.leading, self.is_searched = exports, is_searched
+        for name in ("exports", "member_exports"):
+            self.__dict__.pop(name, None)
+
+    @cached_property
     def exports(self) -> tuple[str, ...]:
         """The exports that are known to reach the type, in the order of the document."""
         named = [label for one, rest in self.found if not rest for label in one.reaching]
         return tuple(dict.fromkeys([*named, *(one.export for one in self.breaks), *self.leading]))
 
-    @property
+    @cached_property
     def member_exports(self) -> tuple[str, ...]:
         """Further exports, which reach types of its members, but perhaps only through other types."""
         known = set(self.exports)

@@ -7,8 +7,10 @@ form.
 from __future__ import annotations
 
 import bisect
+import contextlib
 import itertools
 import struct
+from collections import Counter
 from dataclasses import dataclass
 from functools import cached_property
 from pathlib import Path
@@ -38,6 +40,8 @@ _MOST_TEXTS = 64
 _MOST_PLACES = 4096
 # For how many names a declaration is searched; and in how many units with a name an entry is searched, if their bytes do not lead to it.
 _MOST_DECLARED = 256
+# After so many searches for bytes, it takes less time to read all of them once.
+_MANY = 1024
 _MOST_USERS = 8
 # How many bytes the abbreviation code before a name may have.
 _CODE_SIZES = (1, 2, 3)
@@ -109,6 +113,9 @@ class Entries:
         self._declarations: dict[str, Optional[Entry]] = {}
         self._names: dict[str, list[bytes]] = {}
         self._places: dict[str, list[int]] = {}
+        self._searches: Counter[int] = Counter()
+        self._address_searches = 0
+        self._all_names: dict[int, dict[str, list[int]]] = {}
 
     def prepare(self) -> None:
         """Reads the tables by which exports are found."""
@@ -286,12 +293,30 @@ class Entries:
         return ".debug_str_offsets" in self.sections
 
     def _named_in(self, unit: Unit, name: str) -> Iterator[Entry]:
-        """The entries of a unit with this name, found by its bytes: gcc writes the name right after the abbreviation code."""
+        """The entries of a unit with this name, found by its bytes: gcc writes the name right after the abbreviation code. After many
+        searches in one unit its entries are read instead."""
         if self._has_indexes:
+            return
+        self._searches[unit.start] += 1
+        if self._searches[unit.start] > _MANY:
+            yield from filter(None, map(self.at, self._names_of(unit).get(name, ())))
             return
         for wanted in self._bytes_of(name):
             for place in _found(self.info, wanted, unit.entries, unit.end):
                 yield from self._before(place, name)
+
+    def _names_of(self, unit: Unit) -> dict[str, list[int]]:
+        """The offsets of all entries of a unit by name, up to the first that cannot be read."""
+        if unit.start not in self._all_names:
+            found = self._all_names[unit.start] = {}
+            at = unit.entries
+            with contextlib.suppress(*BROKEN):
+                while at < unit.end:
+                    entry = self._decoded(unit, at)
+                    if entry is not None and entry.name is not None:
+                        found.setdefault(entry.name, []).append(at)
+                    at = at + 1 if entry is None else entry.end
+        return self._all_names[unit.start]
 
     def _named_anywhere(self, name: str) -> Iterator[Entry]:
         """The entries of all units with this name, found by its bytes and in the order of the units."""
@@ -316,10 +341,23 @@ class Entries:
         if name not in self._names:
             wanted = name.encode("ascii", "replace") + b"\0"
             texts = self.sections.get(".debug_str", b"")
-            whole = [at + 1 for at in _found(texts, b"\0" + wanted, 0, len(texts))] + [0] * texts.startswith(wanted)
+            if len(self._names) < _MANY:
+                whole = [at + 1 for at in _found(texts, b"\0" + wanted, 0, len(texts))] + [0] * texts.startswith(wanted)
+            else:
+                whole = self._texts.get(wanted[:-1], [])
             places = whole or _found(texts, wanted, 0, len(texts))
             self._names[name] = [wanted, *map(_FOUR.pack, itertools.islice(places, _MOST_TEXTS))]
         return self._names[name]
+
+    @cached_property
+    def _texts(self) -> dict[bytes, list[int]]:
+        """The offsets of each whole string of `.debug_str`."""
+        found: dict[bytes, list[int]] = {}
+        at = 0
+        for text in self.sections.get(".debug_str", b"").split(b"\0"):
+            found.setdefault(text, []).append(at)
+            at += len(text) + 1
+        return found
 
     def _places_of(self, name: str) -> list[int]:
         """The offsets in `.debug_info` of the bytes for a name, in order."""
@@ -348,8 +386,21 @@ class Entries:
         number = bisect.bisect_right(self._code, (address, _BEHIND)) - 1
         if number >= 0 and address < self._code[number][1]:
             return self._unit_from(self._code[number][2])
+        self._address_searches += 1
+        if self._address_searches > _MANY:
+            return self.unit_at(self._named_addresses.get(address, -1))
         place = self.info.find(_AT_ADDRESS + _EIGHT.pack(address))
         return None if place < 0 else self.unit_at(place)
+
+    @cached_property
+    def _named_addresses(self) -> dict[int, int]:
+        """Where the bytes that name an address of a variable first stand, for all addresses of symbols."""
+        wanted = {_AT_ADDRESS + _EIGHT.pack(address) for found in self._addresses.values() for address in found}
+        places: dict[int, int] = {}
+        for at in _found(self.info, _AT_ADDRESS, 0, len(self.info)):
+            if self.info[at:at + 9] in wanted:
+                places.setdefault(_EIGHT.unpack_from(self.info, at + 1)[0], at)
+        return places
 
     def _unit_from(self, start: int) -> Optional[Unit]:
         """The unit that begins at an offset."""

@@ -55,10 +55,10 @@ class Report:
         self.blocks = blocks_of(document, self.old, self.new)
         ways = Ways(self.old, [(block, block.member_exports) for block in self.blocks if not block.is_exact])
         for block in self.blocks:
-            block.leading = tuple(export for export in block.member_exports if ways.of(block, export) is not None)
+            block.lead(tuple(export for export in block.member_exports if ways.of(block, export) is not None))
         if searches and any(block.subject.kind == "record" and not block.names_all_exports for block in self.blocks):
             self._search()
-        self._shown: dict[tuple[str, ...], Block] = {}
+        self._shown: dict[tuple[frozenset[str], frozenset[str]], Block] = {}
 
     def _search(self) -> None:
         """Finds the exports that reach each structure."""
@@ -66,7 +66,7 @@ class Report:
         for block in self.blocks:
             exports = found.of(self.old.records, block.subject.old.entry) if block.subject.kind == "record" else None
             if exports and not block.names_all_exports:
-                block.leading, block.is_searched = exports, True
+                block.lead(exports, is_searched=True)
 
     @property
     def answer(self) -> str:
@@ -224,11 +224,10 @@ class Report:
         return block.subject.kind == "export" or (block.subject.kind == "function" and block.exports == (block.first.export,))
 
     def same_exports(self, block: Block, least: int) -> Optional[Block]:
-        """The first block before this one that has the same exports, if there are at least `least` of them."""
-        exports = (*block.exports, "", *block.member_exports)
-        if len(exports) <= least:
+        """The first block before this one that has the same exports in any order, if there are at least `least` of them."""
+        if len(block.exports) + len(block.member_exports) < least:
             return None
-        first = self._shown.setdefault(exports, block)
+        first = self._shown.setdefault((frozenset(block.exports), frozenset(block.member_exports)), block)
         return None if first is block else first
 
     def rule_name(self, rule: str) -> str:

@@ -430,6 +430,15 @@ class ElfFile:
                 found.setdefault(_text(texts, name), set()).add(value)
         return found
 
+    def last_defined(self) -> int:
+        """How many dynamic symbols there are up to the last one that is defined for others. Raises a fault if the table is damaged."""
+        table = next((self.raw(section) for section in self._of_kind(SHT_DYNSYM)), b"")
+        for number in range(len(table) // SYMBOL_SIZE, 0, -1):
+            _, information, _, section, _, _ = _SYMBOL.unpack_from(table, (number - 1) * SYMBOL_SIZE)
+            if information >> 4 and section:
+                return number
+        return 0
+
     def _symbols(self) -> tuple[bytes, list[tuple[int, ...]]]:
         """The string table of the dynamic symbols, and the symbols."""
         try:

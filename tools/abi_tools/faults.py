@@ -6,25 +6,19 @@ import contextlib
 import os
 import signal
 import sys
-from typing import Callable, NoReturn, Sequence
+from typing import Callable, Sequence
 
 from abi_tools.shown import line_shown
+from abi_tools.signals import end_on_signals, ended_by_signal
 
 # The exit status for wrong arguments, the same as that of `abi` (EX_USAGE of sysexits.h).
 WRONG_ARGUMENTS = 64
 # The exit status if a tool cannot do its work. It is that of `cannot tell`, and never 1, which means no.
 FAULT = 2
-# A shell reports a program that a signal ended with this status plus the number of the signal.
-ENDED_BY_SIGNAL = 128
 
 
 class Fault(Exception):
     """A sentence that says what a tool cannot do, and why."""
-
-
-def _end(number: int, _frame: object) -> NoReturn:
-    """Ends the program in an orderly way, so that temporary files are removed."""
-    sys.exit(ENDED_BY_SIGNAL + number)
 
 
 def said_of(error: BaseException) -> str:
@@ -65,10 +59,9 @@ def missing_library(error: ModuleNotFoundError) -> str:
 def run_tool(tool: str, main: Callable[[Sequence[str]], int], arguments: Sequence[str], fault_status: int = FAULT) -> int:
     """Runs `main` and returns its exit status. If it raises an exception, prints a sentence on standard error and returns
     `fault_status`: an exception that Python prints would end the program with 1, which means no."""
-    for number in (signal.SIGTERM, signal.SIGINT, signal.SIGHUP):
-        signal.signal(number, _end)
+    end_on_signals()
     try:
-        return main(arguments)
+        return ended_by_signal(main(arguments))
     except (Fault, OSError, MemoryError) as error:
         said = said_of(error)
     except ModuleNotFoundError as error:

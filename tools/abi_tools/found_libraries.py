@@ -3,7 +3,9 @@ reads, its sections, must say the same."""
 
 from __future__ import annotations
 
+import bisect
 from dataclasses import dataclass, field
+from itertools import takewhile
 from pathlib import Path, PurePosixPath
 from typing import Iterator, Optional
 
@@ -80,24 +82,46 @@ def contents_of(package: Package) -> Contents:
     to them."""
     files = [(name, file) for name, file in package.tree.files() if file.is_elf]
     found = Contents(seen=len(files))
-    linked = tuple(_linked_debug(package.tree))
+    links = DebugLinks(package.tree)
     for name, file in files:
-        if name.startswith(DEBUG) and not f"{name}/".startswith(linked):
+        if name.startswith(DEBUG) and not links.lead_to(name):
             found.others += 1
         else:
             _sort(found, package, name, file)
     return found
 
 
-def _linked_debug(tree: Tree) -> Iterator[str]:
-    """What links from outside lead to in the folder of debug information: names of files and folders, each with a slash behind."""
-    if not any(name.startswith(DEBUG) for name in tree.entries):
-        return
-    for name, node in tree.entries.items():
-        if isinstance(node, Link) and not name.startswith(DEBUG):
-            target = f"{tree.resolved(name) or ''}/"
-            if target.startswith(DEBUG):
-                yield target
+class DebugLinks:
+    """What links from outside lead to in the folder of debug information, also by way of links in it."""
+
+    def __init__(self, tree: Tree) -> None:
+        """Follows the links."""
+        self._reached: set[str] = set()
+        if not any(name.startswith(DEBUG) for name in tree.entries):
+            return
+        links = [(name, f"{tree.resolved(name) or ''}/") for name, node in tree.entries.items() if isinstance(node, Link)]
+        inside = sorted((name, target) for name, target in links if name.startswith(DEBUG) and target.startswith(DEBUG))
+        waiting = [target for name, target in links if target.startswith(DEBUG) and not name.startswith(DEBUG)]
+        while waiting:
+            place = waiting.pop()
+            if place not in self._reached:
+                self._reached.add(place)
+                links_from = (inside[number] for number in range(bisect.bisect_left(inside, (place, "")), len(inside)))
+                waiting += [target for _, target in takewhile(lambda link: link[0].startswith(place), links_from)]
+
+    def __bool__(self) -> bool:
+        return bool(self._reached)
+
+    def lead_to(self, name: str) -> bool:
+        """Whether a link leads to a file, or to a folder in which it lies."""
+        return bool(self._reached) and any(f"{place}/" in self._reached for place in (name, *folders_above(name)))
+
+
+def folders_above(name: str) -> Iterator[str]:
+    """The folders that a file lies in, directly or not; the empty name is that of the root."""
+    while name:
+        name = name.rpartition("/")[0]
+        yield name
 
 
 def _sort(found: Contents, package: Package, name: str, file: File) -> None:
@@ -133,9 +157,9 @@ def _sort_dynamic(found: Contents, package: Package, name: str, path: Path) -> N
         troubles.append("its sections and its segments have different sonames" if soname is not None or view is not None
                         else "its segments are damaged")
         soname = soname or sections.soname
-    if view is not None and sections is not None and view.has_symbols and sections.has_symbols and not sections.agrees(view):
-        troubles.append("its sections and its segments have different tables of symbols")
     has_symbols = view is not None and view.has_symbols or sections is not None and sections.has_symbols
+    if has_symbols and view is not None and sections is not None and not sections.agrees(view):
+        troubles.append("its sections and its segments have different tables of symbols")
     file_name = PurePosixPath(name).name
     if has_symbols and (soname or _SHARED in file_name):
         size = path.stat().st_size
@@ -149,17 +173,19 @@ def _sort_dynamic(found: Contents, package: Package, name: str, path: Path) -> N
 @dataclass(frozen=True)
 class _Sections:
     """What the sections of a file say: its soname, whether it has dynamic symbols, whether it is a debug file, which has the headers of
-    the library's sections without their bytes, where the tables of symbols begin, and how many symbols there are."""
+    the library's sections without their bytes, where the tables of symbols begin, how many symbols there are, and how many up to the last
+    one that it defines for others."""
 
     soname: Optional[str]
     has_symbols: bool
     is_debug: bool
     tables: Tables
     count: int
+    defined: int
 
     def agrees(self, view: LoaderView) -> bool:
-        """Whether the loader finds its symbols in the same tables."""
-        return self.tables == view.tables and self.count >= view.hashed
+        """Whether the loader finds the same symbols in the same tables."""
+        return self.tables == view.tables and self.defined <= view.hashed <= self.count
 
 
 def _sections_of(path: Path) -> tuple[Optional[_Sections], list[str]]:
@@ -167,11 +193,14 @@ def _sections_of(path: Path) -> tuple[Optional[_Sections], list[str]]:
     try:
         file = ElfFile(path, "it")
         symbols, versions, definitions = (_first(file, kind) for kind in (SHT_DYNSYM, SHT_GNU_VERSYM, SHT_GNU_VERDEF))
-        names = file.sections[symbols.link] if symbols is not None and symbols.link < len(file.sections) else None
+        names, version_names = (file.sections[one.link] if one is not None and one.link < len(file.sections) else None
+                                for one in (symbols, definitions))
+        if names is not None and version_names is not None and names.offset != version_names.offset:
+            return None, ["its sections have the names of its symbols and of their versions in two places"]
         empty = any(section.name == ".dynsym" and section.kind == SHT_NOBITS for section in file.sections)
         tables = tuple(None if one is None else one.offset for one in (symbols, names, versions, definitions))
         count = 0 if symbols is None else symbols.size // SYMBOL_SIZE
-        return _Sections(file.soname, symbols is not None, empty and symbols is None, tables, count), []
+        return _Sections(file.soname, symbols is not None, empty and symbols is None, tables, count, file.last_defined()), []
     except Fault as fault:
         return None, [str(fault)]
 

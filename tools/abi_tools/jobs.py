@@ -15,6 +15,7 @@ from dataclasses import dataclass, field
 from typing import Callable, Generic, Iterator, NoReturn, Sequence, TypeVar, Union
 
 from abi_tools.faults import Fault, missing_library, said_of, said_of_signal
+from abi_tools.signals import ENDING, check_signals, signals_held
 
 _MEGABYTE = 1 << 20
 _PAGE = resource.getpagesize()
@@ -79,16 +80,18 @@ class Steps(Generic[Value]):
             self._stop()
 
     def _start(self, number: int, step: Callable[[], Value]) -> None:
-        source, target = os.pipe()
-        process = os.fork()
-        if process == 0:
-            os.close(source)
-            _work(step, target, self._limits)
-        with contextlib.suppress(OSError):
-            os.setpgid(process, process)
-        os.close(target)
-        self._running[source] = _Step(number, process, source, time.monotonic() + _WAITS * self._limits.seconds)
-        self._ready.register(source, select.POLLIN)
+        """Starts the process of a step. What Python runs before and after a fork loses exceptions, those of signals among them."""
+        with signals_held():
+            source, target = os.pipe()
+            process = os.fork()
+            if process == 0:
+                os.close(source)
+                _work(step, target, self._limits)
+            with contextlib.suppress(OSError):
+                os.setpgid(process, process)
+            os.close(target)
+            self._running[source] = _Step(number, process, source, time.monotonic() + _WAITS * self._limits.seconds)
+            self._ready.register(source, select.POLLIN)
 
     def _ended(self) -> Iterator[tuple[int, Union[Value, Failure]]]:
         """Waits until a step says something, and yields those that ended."""
@@ -99,18 +102,13 @@ class Steps(Generic[Value]):
                 step.parts.append(part)
             else:
                 yield step.number, self._value(step)
+        check_signals()
         now = time.monotonic()
         for step in [one for one in self._running.values() if one.until < now]:
             _kill(step.process)
 
     def _value(self, step: _Step) -> Union[Value, Failure]:
-        self._ready.unregister(step.pipe)
-        os.close(step.pipe)
-        # The process ends now. Its number stays its own until it is reaped, so what it may have left running is ended before.
-        os.waitid(os.P_PID, step.process, os.WEXITED | os.WNOWAIT)
-        _kill(step.process)
-        _, status = os.waitpid(step.process, 0)
-        del self._running[step.pipe]
+        status = self._reaped(step)
         if step.parts and os.WIFEXITED(status) and os.WEXITSTATUS(status) == 0:
             value: Union[Value, Failure] = pickle.loads(b"".join(step.parts))
             return value
@@ -119,6 +117,17 @@ class Steps(Generic[Value]):
         number = os.WTERMSIG(status) if os.WIFSIGNALED(status) else None
         return Failure(f"it ended with status {os.WEXITSTATUS(status)}" if number is None else self._said_of_signal(number))
 
+    def _reaped(self, step: _Step) -> int:
+        """How a process ended that ends now. Its number stays its own until it is reaped, so what it may have left running is ended
+        before."""
+        with signals_held():
+            self._ready.unregister(step.pipe)
+            os.close(step.pipe)
+            del self._running[step.pipe]
+            os.waitid(os.P_PID, step.process, os.WEXITED | os.WNOWAIT)
+            _kill(step.process)
+            return os.waitpid(step.process, 0)[1]
+
     def _said_of_signal(self, number: int) -> str:
         if number == signal.SIGXCPU:
             return f"it took more than its limit of {self._limits.seconds} seconds of processor time"
@@ -126,13 +135,14 @@ class Steps(Generic[Value]):
 
     def _stop(self) -> None:
         """Ends all steps that still run."""
-        for step in self._running.values():
-            _kill(step.process)
-            os.close(step.pipe)
-        for step in self._running.values():
-            with contextlib.suppress(ChildProcessError):
-                os.waitpid(step.process, 0)
-        self._running.clear()
+        with signals_held():
+            for step in self._running.values():
+                _kill(step.process)
+                os.close(step.pipe)
+            for step in self._running.values():
+                with contextlib.suppress(ChildProcessError):
+                    os.waitpid(step.process, 0)
+            self._running.clear()
 
 
 def _kill(process: int) -> None:
@@ -157,13 +167,17 @@ def _become_step(limits: StepLimits) -> None:
     """Makes this process one that ends with the tool, and limits it."""
     os.setpgid(0, 0)
     ctypes.CDLL(None).prctl(_PR_SET_PDEATHSIG, signal.SIGKILL)
-    for number in (signal.SIGTERM, signal.SIGINT, signal.SIGHUP):
+    for number in ENDING:
         signal.signal(number, signal.SIG_DFL)
-    with open(_MEMORY, encoding="ascii") as stream:
-        taken = int(stream.read().split()[0]) * _PAGE
-    lower(resource.RLIMIT_AS, taken + limits.megabytes * _MEGABYTE)
+    lower(resource.RLIMIT_AS, memory_taken() + limits.megabytes * _MEGABYTE)
     lower(resource.RLIMIT_CPU, int(time.process_time()) + limits.seconds)
     lower(resource.RLIMIT_CORE, 0)
+
+
+def memory_taken() -> int:
+    """How many bytes of memory this process has."""
+    with open(_MEMORY, encoding="ascii") as stream:
+        return int(stream.read().split()[0]) * _PAGE
 
 
 def lower(limit: int, value: int) -> None:
@@ -184,6 +198,21 @@ def _value_of(step: Callable[[], object]) -> object:
     except Exception as error:  # pylint: disable=broad-except
         # A fault of the tools must not look like an answer.
         return Failure(f"a fault of this tool: {type(error).__name__}: {error}")
+
+
+@contextlib.contextmanager
+def limited_time(seconds: int, what: str) -> Iterator[None]:
+    """Work of this process itself. Raises a fault if it takes more seconds of processor time."""
+    def stop(_number: int, _frame: object) -> None:
+        raise Fault(f"{what} took more than its limit of {seconds} seconds of processor time")
+
+    before = signal.signal(signal.SIGPROF, stop)
+    signal.setitimer(signal.ITIMER_PROF, seconds)
+    try:
+        yield
+    finally:
+        signal.setitimer(signal.ITIMER_PROF, 0)
+        signal.signal(signal.SIGPROF, before)
 
 
 def processors() -> int:

@@ -8,12 +8,12 @@ from functools import cached_property
 from typing import Iterator, Optional, Sequence
 
 from abi_tools.faults import Fault
-from abi_tools.found_libraries import DEBUG, PackagedLibrary
+from abi_tools.found_libraries import DEBUG, DebugLinks, PackagedLibrary, folders_above
 from abi_tools.limits import MOST_NAMES
 from abi_tools.package_trees import Link, Node, Tree
 
 # The folders of `/` that are links to the folders of the same names in `/usr` on a merged system.
-_MERGED = ("lib/", "lib32/", "lib64/", "libx32/", "bin/", "sbin/")
+MERGED = ("lib/", "lib32/", "lib64/", "libx32/", "bin/", "sbin/")
 # The folders that the loader searches for 64-bit libraries of x86-64 without being told, on Debian or Fedora.
 _SEARCHED = ("usr/lib", "usr/lib64", "usr/lib/x86_64-linux-gnu")
 # Those that some loaders search: Debian's configuration names folders for local files, and glibc before 2.37 searched for libraries of
@@ -50,7 +50,7 @@ class Place:
 
 def merged(folder: str) -> str:
     """A folder as on a system on which `/lib` leads to `/usr/lib`."""
-    return f"usr/{folder}" if f"{folder}/".startswith(_MERGED) else folder
+    return f"usr/{folder}" if f"{folder}/".startswith(MERGED) else folder
 
 
 class LibraryNames:
@@ -60,11 +60,11 @@ class LibraryNames:
     def __init__(self, libraries: Sequence[PackagedLibrary], trees: Sequence[Tree]) -> None:
         """Finds the names. Raises a fault if they are too many."""
         self.libraries = tuple(libraries)
-        self._tree = _installed(trees)
-        self._files = {_merged_name(one.name): one for one in libraries}
+        self._tree = installed(trees)
+        self._files = {merged_name(one.name): one for one in libraries}
         # Of two files of one name on a merged system, such as `lib/libx.so.1` and `usr/lib/libx.so.1`, nothing says which one stays.
-        self.doubled = {library for one in libraries for library in (one, self._files[_merged_name(one.name)])
-                        if self._files[_merged_name(one.name)] is not one}
+        self.doubled = {library for one in libraries for library in (one, self._files[merged_name(one.name)])
+                        if self._files[merged_name(one.name)] is not one}
         self.names: dict[str, PackagedLibrary] = {}
         for name, library in self._leading():
             self.names[name] = library
@@ -72,14 +72,16 @@ class LibraryNames:
                 raise Fault(f"more than {MOST_NAMES} names lead to libraries of the packages")
 
     def _leading(self) -> Iterator[tuple[str, PackagedLibrary]]:
-        """The names of the files, of links to them, and of the files below links to folders."""
+        """The names of the files, of links to them, and of the files below links to folders. Links in the folder of debug information
+        count if one from outside leads there."""
         yield from self._files.items()
         below: dict[str, list[str]] = {}
         for name in self._files:
-            for folder in _folders_above(name):
+            for folder in folders_above(name):
                 below.setdefault(folder, []).append(name)
+        has_debug = bool(DebugLinks(self._tree))
         for name, node in self._tree.entries.items():
-            target = self._tree.resolved(name) if isinstance(node, Link) and not name.startswith(DEBUG) else None
+            target = self._tree.resolved(name) if isinstance(node, Link) and (has_debug or not name.startswith(DEBUG)) else None
             if target is None:
                 continue
             if target in self._files:
@@ -107,7 +109,7 @@ class LibraryNames:
 
     def loaded_names(self, library: PackagedLibrary) -> list[str]:
         """The names by which the loader opens a library: those that end in its soname."""
-        names = self._by_library.get(library, [_merged_name(library.name)])
+        names = self._by_library.get(library, [merged_name(library.name)])
         return [name for name in names if name.rpartition("/")[2] == library.soname]
 
     def places(self, library: PackagedLibrary) -> dict[Place, None]:
@@ -115,23 +117,17 @@ class LibraryNames:
         return dict.fromkeys(Place.of(name.rpartition("/")[0]) for name in (library.name, *self.loaded_names(library)))
 
 
-def _installed(trees: Sequence[Tree]) -> Tree:
+def installed(trees: Sequence[Tree]) -> Tree:
     """What several packages install on a merged system."""
-    entries: dict[str, Node] = {folder.rstrip("/"): Link(f"/usr/{folder}") for folder in _MERGED}
+    entries: dict[str, Node] = {folder.rstrip("/"): Link(f"/usr/{folder}") for folder in MERGED}
     for tree in trees:
         for name, node in tree.entries.items():
-            if isinstance(node, Link) or f"{name}/" not in _MERGED:
-                entries[_merged_name(name)] = node
+            if isinstance(node, Link) or f"{name}/" not in MERGED:
+                entries[merged_name(name)] = node
     return Tree(entries)
 
 
-def _merged_name(name: str) -> str:
+def merged_name(name: str) -> str:
+    """A name as on a system on which `/lib` leads to `/usr/lib`."""
     folder, _, last = name.rpartition("/")
     return f"{merged(folder)}/{last}" if folder else last
-
-
-def _folders_above(name: str) -> Iterator[str]:
-    """The folders that a file lies in, directly or not; the empty name is that of the root."""
-    while name:
-        name = name.rpartition("/")[0]
-        yield name

@@ -14,6 +14,8 @@ from abi_tools.faults import Fault
 # e_ident (gABI, "ELF Identification"): the magic bytes, the class of 64 bits and the order of little endian.
 _IDENTITY = b"\x7fELF\x02\x01"
 _ORDER_AT, _LITTLE_ENDIAN = 5, 1
+# EI_OSABI: ELFOSABI_NONE and ELFOSABI_GNU. The loader of glibc takes no others, and zeros after them.
+_IDENTITY_SIZE, _SYSTEM, _SYSTEMS = 16, 7, (0, 3)
 # The fields of the header from e_type to e_phnum, and of a program header.
 _HEADER = struct.Struct("<16xHHIQQQIHHH")
 _HEADER_SIZE = 64
@@ -22,7 +24,7 @@ _PT_LOAD, _PT_DYNAMIC, _PT_INTERP = 1, 2, 3
 # The escape value for the number of program headers; no loadable file has as many.
 _PN_XNUM = 0xFFFF
 _DYNAMIC_ENTRY = struct.Struct("<qQ")
-_DT_NULL, _DT_STRTAB, _DT_SYMTAB, _DT_STRSZ, _DT_SONAME = 0, 5, 6, 10, 14
+_DT_NULL, _DT_HASH, _DT_STRTAB, _DT_SYMTAB, _DT_STRSZ, _DT_SONAME = 0, 4, 5, 6, 10, 14
 _DT_GNU_HASH, _DT_VERSYM, _DT_VERDEF = 0x6FFFFEF5, 0x6FFFFFF0, 0x6FFFFFFC
 # The tables that exports rest on: symbols, their names, their versions, and the definitions of these.
 _TABLES = (_DT_SYMTAB, _DT_STRTAB, _DT_VERSYM, _DT_VERDEF)
@@ -88,17 +90,32 @@ class _Reader:
 
     def view(self) -> LoaderView:
         """What the loader sees."""
+        identity = self._bytes(0, _IDENTITY_SIZE)
+        if identity[_SYSTEM] not in _SYSTEMS or any(identity[_SYSTEM + 1:]):
+            raise Fault("its header names a system that the loader refuses")
         fields = _HEADER.unpack(self._bytes(0, _HEADER.size))
         at, size, count = fields[4], fields[8], fields[9]
         if size != _SEGMENT.size or count == _PN_XNUM:
             raise Fault("its program headers are damaged")
         segments = list(_SEGMENT.iter_unpack(self._bytes(at, size * count)))
         self._loaded = [(one[3], one[5], one[2]) for one in segments if one[0] == _PT_LOAD]
-        dynamic = next((one for one in segments if one[0] == _PT_DYNAMIC), None)
-        table = {} if dynamic is None else self._dynamic(dynamic[2], dynamic[5])
+        if any(offset + size > self._size for _, size, offset in self._loaded):
+            raise Fault("it is cut short: a segment extends past its end")
+        dynamic = [(one[3], one[2], one[5]) for one in segments if one[0] == _PT_DYNAMIC]
+        # The loader takes the last one, by its address; other programs take the first one, by its offset.
+        if len(dynamic) > 1 or any(size > 0 and self._place(address) != at for address, at, size in dynamic):
+            raise Fault("its segments name two dynamic sections")
+        table = self._dynamic(dynamic[0][1], dynamic[0][2]) if dynamic else {}
         is_program = any(one[0] == _PT_INTERP for one in segments)
         tables = tuple(self._place(table[tag]) if tag in table else None for tag in _TABLES)
-        return LoaderView(self._soname(table), _DT_SYMTAB in table, is_program, tables, self._hashed(table))
+        return LoaderView(self._soname(table), _DT_SYMTAB in table, is_program, tables, max(self._chained(table), self._hashed(table)))
+
+    def _chained(self, table: dict[int, int]) -> int:
+        """How many symbols there are by the hash table of the gABI: it has a chain for each, and says so in its second number."""
+        if _DT_HASH not in table:
+            return 0
+        _, chains = _numbers(self._bytes(self._place(table[_DT_HASH]), 8))
+        return chains
 
     def _hashed(self, table: dict[int, int]) -> int:
         """How many symbols there are at least, by the GNU hash table: the last bucket's symbols end with an odd hash."""
@@ -141,10 +158,10 @@ class _Reader:
 
     def _place(self, address: int) -> int:
         """Where the byte at an address lies in the file."""
-        for start, size, offset in self._loaded:
-            if start <= address < start + size:
-                return address - start + offset
-        raise Fault("a table of its dynamic section lies outside of its segments")
+        places = {address - start + offset for start, size, offset in self._loaded if start <= address < start + size}
+        if len(places) != 1:
+            raise Fault("a table of its dynamic section lies outside of its segments, or in two of them")
+        return places.pop()
 
     def _bytes(self, at: int, size: int) -> bytes:
         if size < 0 or at + size > self._size:

@@ -9,11 +9,10 @@ from pathlib import Path
 from typing import Iterator, Optional, Sequence
 
 from abi_tools.debuginfod import Debuginfod, ServedPlaces
-from abi_tools.faults import Fault
 from abi_tools.found_libraries import Contents, LeftOut, PackagedLibrary, Unreadable, contents_of
 from abi_tools.library_names import LibraryNames
+from abi_tools.package_conflicts import refuse_conflicts
 from abi_tools.package_debug import PackagePlaces
-from abi_tools.package_trees import Entry
 from abi_tools.pairing import Pair, pairs_of, with_unreadable
 from abi_tools.shown import name_shown
 from abi_tools.unpacking import Package, unpack
@@ -32,8 +31,8 @@ class Side:
 
     @classmethod
     def of(cls, packages: Sequence[Package], contents: Sequence[Contents]) -> "Side":
-        """A side. Raises a fault if two packages bring a library of the same name."""
-        _refuse_second(packages)
+        """A side. Raises a fault if the packages cannot be installed together, or not in one way only."""
+        refuse_conflicts(packages, contents)
         return cls(tuple(packages), tuple(contents))
 
     @classmethod
@@ -72,20 +71,6 @@ class Side:
     def places(self) -> PackagePlaces:
         """Where the debug files of its libraries lie."""
         return PackagePlaces(self.packages) if self.servers is None else ServedPlaces(self.packages, self.servers)
-
-
-def _refuse_second(packages: Sequence[Package]) -> None:
-    """Raises a fault if two packages bring a file of the same name, and one of these is an ELF file."""
-    elf_files: set[str] = set()
-    others: set[str] = set()
-    for package in packages:
-        own = {name for name, file in package.tree.files() if file.is_elf}
-        rest = {name for name, node in package.tree.entries.items() if node is not Entry.FOLDER} - own
-        twice = sorted(elf_files & own | elf_files & rest | others & own)
-        if twice:
-            raise Fault(f"{package.file} brings a file that another package brings, too: {name_shown(twice[0])}")
-        elf_files |= own
-        others |= rest
 
 
 def libraries(package: Package) -> Iterator[PackagedLibrary]:

@@ -113,6 +113,12 @@ class Tree:
             left += [one for one in reversed(node.target.split("/")) if one not in ("", ".")]
         return at
 
+    def named(self, name: str) -> Optional[Node]:
+        """The entry of a name whose folder is found through links; None if there is none. It may be a link itself."""
+        folder, _, last = name.rstrip("/").rpartition("/")
+        above = self.resolved(folder)
+        return None if above is None else self.entries.get(f"{above}/{last}" if above else last)
+
     def file(self, name: str) -> Optional[File]:
         """The file that a name leads to, through links; None if there is none."""
         found = self.resolved(name)

@@ -5,7 +5,6 @@ from __future__ import annotations
 import argparse
 import os
 import sys
-import tempfile
 from collections import Counter
 from dataclasses import replace
 from functools import partial
@@ -17,11 +16,12 @@ from abi_tools.counting import counted
 from abi_tools.debuginfod import Debuginfod
 from abi_tools.faults import Fault
 from abi_tools.found_libraries import Contents, contents_of
-from abi_tools.jobs import Failure, StepLimits, Steps, default_megabytes, processors
+from abi_tools.jobs import Failure, StepLimits, Steps, default_megabytes, limited_time, processors
 from abi_tools.package_judging import GONE, LEFT_OUT, NEW, Judging, Line, file_names, worst
 from abi_tools.package_sides import Pair, Side, pairs
 from abi_tools.progress import Progress
 from abi_tools.shown import line_shown, name_shown
+from abi_tools.signals import temporary_folder
 from abi_tools.unpacking import Package, unpack
 from abi_tools.verdicts import Verdict
 
@@ -41,6 +41,8 @@ Exit status:
 _ORDER = (Verdict.NO.words(), GONE, Verdict.CANNOT_TELL.words(), Verdict.YES.words(), NEW, LEFT_OUT)
 _NOT_YES = _ORDER[:3]
 _KINDS = {"no": _ORDER[:2], "cannot-tell": _ORDER[2:3], "yes": _ORDER[3:4], "new": _ORDER[4:5], "left-out": _ORDER[5:]}
+# A package, and what it brings.
+_Read = tuple[Package, Contents]
 # How many libraries the last line names at most.
 _MOST_NAMED = 8
 
@@ -126,11 +128,12 @@ def _judge(given: argparse.Namespace, new: Sequence[Path]) -> Verdict:
     elif not given.verify.is_dir():
         raise Fault(f"there is no folder {given.verify}")
     limits = StepLimits(given.memory or default_megabytes(given.workers), given.seconds)
-    with tempfile.TemporaryDirectory(prefix="abi-packages-") as folder:
-        work = Path(folder)
+    with temporary_folder("abi-packages-") as work:
         old, new = (given.old, new) if not given.fetch else _fetched(given, new, work / "fetched", limits)
-        sides = _served(_sides(old, new, work, limits, given.workers), given, work / "served")
-        found = pairs(*sides)
+        read = _read_all(old, new, work, limits, given.workers)
+        with limited_time(given.seconds, "pairing the libraries"):
+            sides = _served((_side(read[0]), _side(read[1])), given, work / "served")
+            found = pairs(*sides)
         _refuse_unknown(given.leave_out, found)
         judging = Judging(work / "libraries", sides, given.verify or given.certificates, given.keep,
                           given.rules.resolve() if given.rules else None, given.require_types, tuple(given.leave_out),
@@ -166,8 +169,8 @@ def _served(sides: tuple[Side, Side], given: argparse.Namespace, folder: Path) -
     return old, new
 
 
-def _sides(old: Sequence[Path], new: Sequence[Path], work: Path, limits: StepLimits, workers: int) -> tuple[Side, Side]:
-    """Both sides. A package that is given on both of them is read once. Raises a fault if one cannot be read."""
+def _read_all(old: Sequence[Path], new: Sequence[Path], work: Path, limits: StepLimits, workers: int) -> tuple[list[_Read], list[_Read]]:
+    """The packages of both sides. One that is given on both of them is read once. Raises a fault if one cannot be read."""
     keys = [_identity(file) for file in (*old, *new)]
     files = dict(zip(keys, (*old, *new)))
     steps = []
@@ -175,13 +178,12 @@ def _sides(old: Sequence[Path], new: Sequence[Path], work: Path, limits: StepLim
         folder = work / "packages" / str(number)
         folder.mkdir(parents=True)
         steps.append(partial(_read, file, folder))
-    found = _all_of(Steps[tuple[Package, Contents]](limits, workers), steps, "packages", list(files.values()))
+    found = _all_of(Steps[_Read](limits, workers), steps, "packages", list(files.values()))
     read = dict(zip(files, found))
-    of_old, of_new = ([read[key] for key in some] for some in (keys[:len(old)], keys[len(old):]))
-    return _side(of_old), _side(of_new)
+    return [read[key] for key in keys[:len(old)]], [read[key] for key in keys[len(old):]]
 
 
-def _side(read: Sequence[tuple[Package, Contents]]) -> Side:
+def _side(read: Sequence[_Read]) -> Side:
     return Side.of([package for package, _ in read], [contents for _, contents in read])
 
 
@@ -194,16 +196,16 @@ def _identity(file: Path) -> tuple[object, ...]:
     return status.st_dev, status.st_ino
 
 
-def _read(file: Path, folder: Path) -> tuple[Package, Contents]:
+def _read(file: Path, folder: Path) -> _Read:
     """A package, and what it brings."""
     package = unpack(file, folder)
     return package, contents_of(package)
 
 
-def _all_of(steps: Steps[tuple[Package, Contents]], work: Sequence[Callable[[], tuple[Package, Contents]]], what: str,
-            files: Sequence[Path]) -> list[tuple[Package, Contents]]:
+def _all_of(steps: Steps[_Read], work: Sequence[Callable[[], _Read]], what: str,
+            files: Sequence[Path]) -> list[_Read]:
     """The values of all steps. Raises a fault if the first of them that fails does so."""
-    values: dict[int, tuple[Package, Contents]] = {}
+    values: dict[int, _Read] = {}
     failures: dict[int, str] = {}
     with Progress(len(work), what) as progress:
         for number, value in steps.run(work):

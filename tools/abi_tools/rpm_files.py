@@ -4,8 +4,9 @@ from __future__ import annotations
 
 import stat
 import struct
+from collections import Counter
 from dataclasses import dataclass
-from typing import BinaryIO, Iterator, Mapping, NamedTuple
+from typing import BinaryIO, Iterator, Mapping, NamedTuple, Optional, Sequence
 
 from abi_tools.archives import KINDS, Archive, Kind, Member
 from abi_tools.faults import Fault
@@ -20,14 +21,17 @@ _HEADER = struct.Struct(">4s4xII")
 _HEADER_MAGIC = b"\x8e\xad\xe8\x01"
 # An entry: tag, type, offset and count.
 _ENTRY = struct.Struct(">IIII")
-# RPM_INT16_TYPE, RPM_INT32_TYPE, RPM_STRING_TYPE and RPM_STRING_ARRAY_TYPE, and the tags that are read (`docs/manual/tags.md`).
-_INT16, _INT32, _STRING, _STRINGS = 3, 4, 6, 8
+# RPM_INT16_TYPE, RPM_INT32_TYPE, RPM_INT64_TYPE, RPM_STRING_TYPE and RPM_STRING_ARRAY_TYPE, and the tags that are read
+# (`docs/manual/tags.md`).
+_INT16, _INT32, _INT64, _STRING, _STRINGS = 3, 4, 5, 6, 8
 _VERSION, _RELEASE, _REQUIRES = 1001, 1002, 1049
 _PAYLOAD_FORMAT, _PAYLOAD_COMPRESSOR = 1124, 1125
-# The files of a package: Oldfilenames, Filemodes, Filelinktos, Dirindexes, Basenames and Dirnames.
-_OLD_NAMES, _MODES, _TARGETS, _FOLDER_NUMBERS, _FILE_NAMES, _FOLDERS = 1027, 1030, 1036, 1116, 1117, 1118
-_READ = (_VERSION, _RELEASE, _REQUIRES, _PAYLOAD_FORMAT, _PAYLOAD_COMPRESSOR, _OLD_NAMES, _MODES, _TARGETS, _FOLDER_NUMBERS, _FILE_NAMES,
-         _FOLDERS)
+# The files of a package: Oldfilenames, Filesizes and Longfilesizes, Filemodes, Filelinktos, Filedevices, Fileinodes, Dirindexes, Basenames
+# and Dirnames.
+_OLD_NAMES, _SIZES, _LONG_SIZES, _MODES, _TARGETS, _DEVICES, _INODES = 1027, 1028, 5008, 1030, 1036, 1095, 1096
+_FOLDER_NUMBERS, _FILE_NAMES, _FOLDERS = 1116, 1117, 1118
+_READ = (_VERSION, _RELEASE, _REQUIRES, _PAYLOAD_FORMAT, _PAYLOAD_COMPRESSOR, _OLD_NAMES, _SIZES, _LONG_SIZES, _MODES, _TARGETS, _DEVICES,
+         _INODES, _FOLDER_NUMBERS, _FILE_NAMES, _FOLDERS)
 # How many texts an array may have, and how many letters of a text a sentence quotes.
 _MOST_TEXTS = 1 << 19
 _LONGEST_SAID = 16
@@ -62,17 +66,20 @@ class _Header:
     def numbers(self, tag: int) -> list[int]:
         """The numbers of a tag; empty if it has none, or if they do not lie in the header."""
         kind, offset, count = self.entries.get(tag, (0, 0, 0))
-        form = {_INT16: "H", _INT32: "I"}.get(kind)
+        form = {_INT16: "H", _INT32: "I", _INT64: "Q"}.get(kind)
         if form is None or offset + count * struct.calcsize(form) > len(self.values):
             return []
         return list(struct.unpack_from(f">{count}{form}", self.values, offset))
 
 
 class Listed(NamedTuple):
-    """What the header says of a file: its kind, and the target of a symbolic link."""
+    """What the header says of a file: its kind, the target of a symbolic link, its size, and its device and inode: files that have them in
+    common are names of one file. Without an inode a file has one name."""
 
     kind: Kind
     target: str
+    size: int
+    inode: Optional[tuple[int, int]]
 
 
 class Payload(Archive):
@@ -90,13 +97,27 @@ class Payload(Archive):
 
     def members(self) -> Iterator[Member]:
         """The members in order. Raises a fault if the header says otherwise of one."""
+        first_names: dict[tuple[int, int], str] = {}
         for member in super().members():
             listed = self._listed.get(_plain(member.name))
-            kind = Kind.FILE if member.kind is Kind.HARD_LINK else member.kind
-            if listed is None or listed.kind is not kind or kind is Kind.LINK and listed.target != member.target:
+            if listed is None or not _agree(member, listed, first_names):
                 said = "does not list" if listed is None else "says otherwise of"
                 raise Fault(f"{self.file} is refused: its header {said} its member {name_shown(member.name)}")
             yield member
+
+
+def _agree(member: Member, listed: Listed, first_names: dict[tuple[int, int], str]) -> bool:
+    """Whether a member is what the header says: its kind, the target of a link, of which file it is another name (`first_names` has the
+    first name of each inode so far), and its size. Of the names of one file only one has contents."""
+    kind = Kind.FILE if member.kind is Kind.HARD_LINK else member.kind
+    if listed.kind is not kind or kind is Kind.LINK and listed.target != member.target:
+        return False
+    if kind is not Kind.FILE:
+        return True
+    name = _plain(member.name)
+    first = name if listed.inode is None else first_names.setdefault(listed.inode, name)
+    return first == _plain(member.target if member.kind is Kind.HARD_LINK else member.name) and member.size in (
+        (listed.size,) if listed.inode is None else (0, listed.size))
 
 
 def _plain(name: str) -> str:
@@ -106,17 +127,30 @@ def _plain(name: str) -> str:
 
 def _listed(header: _Header, file: object) -> dict[str, Listed]:
     """The files that the header lists."""
-    folders, bases, targets = (header.texts(tag) for tag in (_FOLDERS, _FILE_NAMES, _TARGETS))
-    modes, numbers = header.numbers(_MODES), header.numbers(_FOLDER_NUMBERS)
-    try:
-        names = [f"{folders[number]}{base}" for number, base in zip(numbers, bases)] or header.texts(_OLD_NAMES)
-    except IndexError as error:
-        raise Fault(f"{file} is damaged: its header has no folder of a file") from error
-    kinds = [KINDS.get(stat.S_IFMT(mode), Kind.OTHER) for mode in modes]
-    listed = {_plain(name): Listed(kind, target) for name, kind, target in zip(names, kinds, targets)}
-    if not len(listed) == len(names) == len(kinds) == len(targets) or len(numbers) != len(bases):
+    names, targets = _names(header, file), header.texts(_TARGETS)
+    kinds = [KINDS.get(stat.S_IFMT(mode), Kind.OTHER) for mode in header.numbers(_MODES)]
+    sizes = header.numbers(_SIZES) or header.numbers(_LONG_SIZES)
+    inodes = _inodes(header, kinds)
+    listed = {_plain(name): one for name, one in zip(names, map(Listed, kinds, targets, sizes, inodes))}
+    if not len(listed) == len(names) == len(kinds) == len(targets) == len(sizes) == len(inodes):
         raise Fault(f"{file} is damaged: the lists of files in its header differ, or name a file twice")
     return listed
+
+
+def _names(header: _Header, file: object) -> list[str]:
+    """The names of the files that the header lists."""
+    folders, bases, numbers = header.texts(_FOLDERS), header.texts(_FILE_NAMES), header.numbers(_FOLDER_NUMBERS)
+    if len(numbers) != len(bases) or any(number >= len(folders) for number in numbers):
+        raise Fault(f"{file} is damaged: its header has no folder of a file")
+    return [f"{folders[number]}{base}" for number, base in zip(numbers, bases)] or header.texts(_OLD_NAMES)
+
+
+def _inodes(header: _Header, kinds: Sequence[Kind]) -> list[Optional[tuple[int, int]]]:
+    """Of each file that has several names, its device and inode; None for any other."""
+    numbers = header.numbers(_INODES) or [0] * len(kinds)
+    pairs = list(zip(header.numbers(_DEVICES) or [0] * len(numbers), numbers))
+    counts = Counter(pair for pair, kind in zip(pairs, kinds) if kind is Kind.FILE)
+    return [pair if counts[pair] > 1 and pair[1] > 0 else None for pair in pairs]
 
 
 def _decoded(text: bytes) -> str:

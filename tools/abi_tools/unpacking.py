@@ -125,9 +125,12 @@ class _Placing:
             self.tree.place(member.name, Entry.FOLDER if member.kind is Kind.FOLDER else Entry.OTHER)
 
     def _take_hard_link(self, member: Member) -> None:
-        """A second name of a file. In a .rpm the last name of a file has its contents."""
-        node = self.tree.file(member.target)
-        if node is None:
+        """A second name of a file or, as dpkg makes it, of a symbolic link. In a .rpm the last name of a file has its contents."""
+        node = self.tree.named(member.target)
+        if isinstance(node, Link) and member.size == 0:
+            self.tree.place(member.name, node)
+            return
+        if not isinstance(node, File):
             raise Refused(f"its member {name_shown(member.name)} is a hard link to {name_shown(member.target)}, which it does not bring")
         place = self.tree.place(member.name, node)
         if member.size > 0:
