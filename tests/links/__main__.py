@@ -1,0 +1,80 @@
+"""Whether each link of a page leads somewhere, and each path that a page names is there: tests/links.sh says how it is called.
+
+A relative link leads to a file or a folder, and what stands behind its `#` is a heading of that page. A path in backticks that begins with a
+folder of this repository leads to a file or a folder too, unless it has a word in capitals in place of a name, or a star.
+"""
+
+from __future__ import annotations
+
+import re
+import sys
+from functools import cache
+from pathlib import Path
+from typing import Iterator
+
+ROOT = Path(__file__).resolve().parents[2]
+FOLDERS = ("bench", "crates", "docs", "edits", "examples", "share", "tests", "tools")
+# What is made, or kept, and not part of the repository.
+MADE = {".git", "made", "out"}
+
+
+def pages() -> list[Path]:
+    """The pages of the repository."""
+    return sorted(page for page in ROOT.rglob("*.md") if not MADE & set(page.relative_to(ROOT).parts))
+
+
+def prose(page: Path) -> str:
+    """The text of a page without its blocks of code."""
+    return re.sub(r"^( *)```.*?^\1```", "", page.read_text(encoding="utf-8"), flags=re.MULTILINE | re.DOTALL)
+
+
+@cache
+def anchors(page: Path) -> frozenset[str]:
+    """The anchors of the headings of a page, as GitHub makes them."""
+    found = list[str]()
+    for heading in re.findall(r"^#+ +(.*?) *$", prose(page), flags=re.MULTILINE):
+        text = re.sub(r"\[([^]]*)\]\([^)]*\)", r"\1", heading)
+        anchor = re.sub(r"[^\w\- ]", "", text.lower()).replace(" ", "-")
+        found.append(f"{anchor}-{found.count(anchor)}" if anchor in found else anchor)
+    return frozenset(found)
+
+
+def faults_of_links(page: Path) -> Iterator[tuple[str, str | None]]:
+    """Each relative link of a page, with its fault."""
+    for link in re.findall(r"\]\(([^)\s]+)\)", re.sub(r"`[^`\n]*`", "", prose(page))):
+        if re.match(r"[a-z]+:", link):
+            continue
+        path, _, anchor = link.partition("#")
+        target = (page.parent / path).resolve() if path else page
+        if not target.exists():
+            yield link, f"there is no {path}"
+        elif anchor and (target.suffix != ".md" or anchor not in anchors(target)):
+            yield link, f"there is no heading {anchor} in {target.relative_to(ROOT)}"
+        else:
+            yield link, None
+
+
+def faults_of_paths(page: Path) -> Iterator[tuple[str, str | None]]:
+    """Each path of this repository that a page names in backticks, with its fault."""
+    for path in re.findall(r"`([\w.+-]+/[\w./+-]*)`", prose(page)):
+        if path.split("/")[0] in FOLDERS and not re.search(r"\b[A-Z]{2,}\b(?!\.md)", path):
+            yield path, None if (ROOT / path).exists() else f"there is no {path}"
+
+
+def main() -> int:
+    """Checks all pages. The pages of edits name files as they were when an edit was tried."""
+    count, faults = 0, list[str]()
+    for page in pages():
+        name = page.relative_to(ROOT)
+        found = list(faults_of_links(page))
+        if name.parts[0] not in ("edits", "CHANGELOG.md"):
+            found += faults_of_paths(page)
+        count += len(found)
+        faults += [f"{name}: {text}: {fault}" for text, fault in found if fault]
+    print(*faults, sep="\n", end="\n" if faults else "", file=sys.stderr)
+    print(f"{count} links and paths lead to what is there" if not faults else f"{len(faults)} faults")
+    return 1 if faults else 0
+
+
+if __name__ == "__main__":
+    sys.exit(main())
