@@ -77,7 +77,7 @@ class Trials:
         _watch((str(work), str(folder / "certificates")), (str(folder / "packages"), "/proc/self/", sys.prefix, str(
             Path(package_judging.__file__).parents[1])), self._outside)
 
-    def _judge(self, _abi: Abi, _old: Path, new: Path, _rules: Optional[Path], _share: float) -> Judgement:
+    def _judge(self, _abi: Abi, _old: Path, new: Path, *_asked: object) -> Judgement:
         """What `abi` would say: only one library may replace the other one, and only one may not."""
         contents = (_abi.folder / new).read_bytes()
         if contents == self.corpus.good:
