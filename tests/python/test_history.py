@@ -123,6 +123,8 @@ def test_what_cannot_be_told_is_neither_yes_nor_no(tmp_path: Path) -> None:
     assert len(lines) == 4 and all(line.startswith("cannot tell ") for line in lines[:2]), lines
     page = (tmp_path / "out/index.html").read_text()
     assert "<i>c" not in page and r"b\x0ayes b" in lines[0]
+    # sentences call a version by its name
+    assert "version-" not in ended.out and "<i>c has no debug information" in lines[2], lines
     # of a version that cannot be read it is not known which exports it has: none came or went
     assert page.count("Which exports came and went is not known.") == 2 and " exports went: " not in page and " exports came: " not in page
     assert [version["exports"] for version in document(tmp_path)["versions"]] == [2, None, 2, 2]
@@ -168,12 +170,15 @@ def test_wrong_arguments(tmp_path: Path) -> None:
     first = built(tmp_path, "v1", text_of(1))
     two = deb(tmp_path, "two", {f"{LIBRARIES}/liba.so.1": built(tmp_path, "a", text_of(1), "liba.so.1"),
                                 f"{LIBRARIES}/libb.so.1": built(tmp_path, "b", text_of(1), "libb.so.1")})
+    many = deb(tmp_path, "many", {f"{LIBRARIES}/b/libb.so.1": tmp_path / "b.so", **{
+        f"{LIBRARIES}/a{number}.so": built(tmp_path, f"a{number}", text_of(1), f"a{number}") for number in range(6)}})
     for arguments, status, words in (((first,), 64, "a history needs two versions"), ((), 64, "required"),
                                      ((first, first), 64, "two versions have the name"), ((first, "x=none"), 2, "there is no file none"),
                                      ((first, f"b={first},{first}"), 64, "b: only packages have several files"),
                                      ((first, f"b={first}", "--workers", "0"), 64, "0 is no number from 1"),
                                      (("--rules", "none", first, f"b={first}"), 2, "there is no rule file none"),
-                                     ((two, f"b={two}"), 2, "name one of liba.so.1, libb.so.1 by --library")):
+                                     ((two, f"b={two}"), 2, "name one of liba.so.1, libb.so.1 by --library"),
+                                     ((many, f"b={many}"), 2, "has 7 libraries: name one of libb.so.1, a0, a1, a2, a3 and 2 more by --library")):
         ended = history(tmp_path, *arguments)
         assert ended.status == status and words in ended.errors and "Traceback" not in ended.errors, ended
     ended = history(tmp_path, "--library", "libb.so.1", two, f"b={two}")

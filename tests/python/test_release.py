@@ -4,6 +4,7 @@ from __future__ import annotations
 
 import contextlib
 import json
+import lzma
 import os
 import pty
 import re
@@ -602,6 +603,29 @@ def test_unpacked_trees(tmp_path: Path) -> None:
         (tmp_path / side).rename(tmp_path / f"{side}.folder")
         (tmp_path / f"{side}.folder/lib1").rename(tmp_path / side)
     assert release(tmp_path, out="root").status == 1 and answers(tmp_path, "root") == {"root lib1.so.1": "no"}
+
+
+def test_the_packages_of_a_mirror(tmp_path: Path) -> None:
+    """The commands of the page take the packages of each release out of a pool that has both."""
+    page = (ROOT / "docs/RELEASES.md").read_text()
+    commands = page.partition("## From a mirror")[2].partition("```sh\n")[2].partition("```")[0]
+    mirror = tmp_path / "mirror"
+    pool = mirror / "pool/main/m/made"
+    for name, version, kind in (("bullseye", "1", "int"), ("bookworm", "2", "long")):
+        path = library(tmp_path, "libmade.so.1", kind)
+        stripped = split(path, tmp_path / "debug")
+        made = [packaged(pool, stripped, version), deb(pool, "made-dbg", {str(system_place(Path(), build_id(path))): tmp_path / "debug"}, version),
+                deb(pool, "made-bin", {"usr/bin/made": stripped}, version)]
+        lists = mirror / "dists" / name / "main/binary-amd64"
+        lists.mkdir(parents=True)
+        text = "".join(f"Package: {one.name.partition('_')[0]}\nFilename: {one.relative_to(mirror)}\n\n" for one in made)
+        (lists / "Packages.xz").write_bytes(lzma.compress(text.encode()))
+    done("sh", "-ec", commands.replace("/srv/debian", str(mirror)), folder=tmp_path)
+    for side, name in (("old", "bullseye"), ("new", "bookworm")):
+        (tmp_path / name).rename(tmp_path / side)
+    assert release(tmp_path).status == 1
+    assert {name: (line["answer"], line["versions"]) for name, line in lines(tmp_path).items()} == {
+        "libmade libmade.so.1": ("no", {"old": "1", "new": "2"})}
 
 
 def test_wrong_arguments_and_folders(tmp_path: Path) -> None:

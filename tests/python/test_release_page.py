@@ -98,6 +98,13 @@ def test_the_text_of_a_line() -> None:
     assert text_of(SOME[5]) == "cannot tell libmade6: no space, tried 2 times; version 1.6 to 2.6"
 
 
+def test_a_library_without_exports(tmp_path: Path) -> None:
+    """A plugin that exports nothing is no comparison of nothing."""
+    one = line(7, compared=0, typed=0)
+    assert text_of(one) == "yes libmade7 libmade7.so.1: no exports that can break; version 1.7 to 2.7"
+    assert "<td>no exports that can break" in written(tmp_path, [one])
+
+
 HOSTILE = "</script><img src=x onerror=alert(1)>\n\x1b[31m\u202e\udcff\\"
 
 

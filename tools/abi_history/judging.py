@@ -4,8 +4,9 @@ pair is judged in a process of its own, under limits, which ends with the tool."
 from __future__ import annotations
 
 import itertools
+import re
 from collections import Counter
-from dataclasses import dataclass, field
+from dataclasses import dataclass, field, replace
 from functools import partial
 from pathlib import Path
 from typing import Callable, Iterator, Optional, Sequence, TypeVar
@@ -17,11 +18,18 @@ from abi_tools.jobs import Failure, StepLimits, Steps
 from abi_tools.verdicts import Verdict
 
 Value = TypeVar("Value")
+# The name of the file of a version in a sentence.
+_FILE = re.compile(r"\bversion-([1-9][0-9]{0,8})\b")
 
 
 def file_of(number: int) -> str:
     """The name of the file of a version, which sentences of `abi` have."""
     return f"version-{number + 1}"
+
+
+def with_names(reason: str, names: Sequence[str]) -> str:
+    """A sentence with the names of versions in place of their files."""
+    return _FILE.sub(lambda found: names[int(found[1]) - 1] if int(found[1]) <= len(names) else found[0], reason)
 
 
 @dataclass(frozen=True)
@@ -129,7 +137,8 @@ class History:
             work = [partial(self.judging.cell, *pair, self._is_composable(*pair)) for pair in pairs]
             for number, found in self._done(work):
                 pair = pairs[number]
-                self.cells[pair] = Cell.cannot_tell(*pair, found.reason) if isinstance(found, Failure) else found
+                cell = Cell.cannot_tell(*pair, found.reason) if isinstance(found, Failure) else found
+                self.cells[pair] = replace(cell, reasons=tuple(with_names(reason, self.names) for reason in cell.reasons))
 
     def _done(self, work: Sequence[Callable[[], Value]]) -> Iterator[tuple[int, Value | Failure]]:
         limits = self.judging.limits

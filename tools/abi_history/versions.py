@@ -15,6 +15,8 @@ from abi_tools.package_sides import PackagedLibrary, Side
 from abi_tools.shown import name_shown
 
 _PACKAGES = (".deb", ".ddeb", ".rpm")
+# Plugins have other names. Those of libraries are named first, and so many in all.
+_LIBRARY, _MOST_NAMED = "lib", 5
 
 
 @dataclass(frozen=True)
@@ -63,12 +65,18 @@ def _wanted(side: Side, package: Path, soname: Optional[str]) -> PackagedLibrary
     read it."""
     found = [library for library in side.libraries if library.package.file == package and soname in (None, library.soname)]
     if len(found) != 1:
-        named = ", ".join(sorted(library.soname for library in side.libraries)[:5])
-        raise Fault(f"{package.name} has {len(found)} libraries{f' {soname}' if soname else ''}"
+        named = _listed(sorted({library.soname for library in side.libraries}, key=lambda one: (not one.startswith(_LIBRARY), one)))
+        raise Fault(f"{package.name} has {len(found)} libraries{f' {name_shown(soname)}' if soname else ''}"
                     f"{f': name one of {named} by --library' if named else ''}")
     if found[0].trouble:
         raise Fault(f"{package.name}: {name_shown(found[0].name)}: {found[0].trouble}")
     return found[0]
+
+
+def _listed(names: Sequence[str]) -> str:
+    """The first names, and how many more there are."""
+    more = f" and {len(names) - _MOST_NAMED} more" if len(names) > _MOST_NAMED else ""
+    return f"{', '.join(map(name_shown, names[:_MOST_NAMED]))}{more}"
 
 
 def soname_of(place: Path) -> str:

@@ -33,10 +33,15 @@ class SmallPackage:
     control: bytes
     plain: bytes
 
+    @staticmethod
+    def may_be(file: Path) -> bool:
+        """Whether a file may be a small package, by its name and its size."""
+        return file.suffix in (".deb", ".ddeb") and file.is_file() and file.stat().st_size <= _LARGEST_PACKED
+
     @classmethod
     def read(cls, file: Path) -> Optional["SmallPackage"]:
         """The package; None if it is not small, or damaged."""
-        if file.suffix not in (".deb", ".ddeb") or not file.is_file() or file.stat().st_size > _LARGEST_PACKED:
+        if not cls.may_be(file):
             return None
         try:
             with file.open("rb") as stream:

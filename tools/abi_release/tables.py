@@ -230,7 +230,7 @@ def text_of(line: Json) -> str:
 def _found(line: Json) -> Iterator[str]:
     """What was found, in words."""
     if "compared" in line:
-        yield f"{line['compared']} exports compared, {line['typed']} with types"
+        yield f"{line['compared']} exports compared, {line['typed']} with types" if line["compared"] else "no exports that can break"
     if "breaks" in line:
         count = sum(line["breaks"].values())
         yield f"{count} break{'s' if count != 1 else ''} ({', '.join(f'{rule} {times}' for rule, times in line['breaks'].items())})"

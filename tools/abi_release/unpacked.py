@@ -75,6 +75,9 @@ class Unpacked:
         """Both sides, unpacked to memory; None if a package is not small or is shared, or if there is no room in memory."""
         if self._at.memory is None or work.is_shared:
             return None
+        # A large package, which the disk takes, is found before any is inflated.
+        if not all(SmallPackage.may_be(place) for of_side in self.places for place in of_side):
+            return None
         sides = [[SmallPackage.read(place) for place in of_side] for of_side in self.places]
         packages = [[one for one in side if one is not None] for side in sides]
         if packages != sides:

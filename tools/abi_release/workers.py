@@ -21,15 +21,22 @@ from abi_release.scratch import IN_MEMORY, Scratch, make_private, sweep
 _MEGABYTE = 1 << 20
 _PAGE = resource.getpagesize()
 _LOOKS_EVERY = 0.5
+# How many seconds lie between heartbeats of a worker.
+_BEATS_EVERY = 10
 # After so many seconds without a task, a worker that several runs share leaves the folder of a run. If the run goes on, it is made again.
 _IDLE = 60.0
 
 
 class QuietWorker(Worker):
-    """A worker without an HTTP server."""
+    """A worker without an HTTP server, with few heartbeats: each takes as long as a small library, and the run uses nothing of them."""
 
     def start_http_server(self, *_arguments: Any, **_options: Any) -> None:
         """Starts none."""
+
+    async def heartbeat(self) -> None:
+        """Sends a heartbeat. The scheduler's answer would have the next one come after half a second."""
+        await super().heartbeat()
+        self.periodic_callbacks["heartbeat"].callback_time = 1000 * _BEATS_EVERY
 
 
 class Places(NamedTuple):

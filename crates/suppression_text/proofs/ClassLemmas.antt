@@ -5,6 +5,7 @@ use Rattle.std.specs.Option.{option_map_or}
 use Rattle.std.specs.List.{range_with_len, list_any}
 use Rattle.std.proofs.lemmas.List.Folds.{list_any-append}
 use Rattle.std.proofs.lemmas.List.Sums.{sum_by_push}
+use Rattle.abi_base.proofs.lemmas.Bools.{or_false}
 use Rattle.abi_base.proofs.lemmas.Ranges.{below_more}
 use Rattle.suppression_text.specs.Classes.{class_count, classes_of, has_flags, value_classes}
 use Rattle.suppression_text.specs.Lines.{is_equals}
