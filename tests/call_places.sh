@@ -1,7 +1,7 @@
 #!/usr/bin/env bash
 # Compiles random functions and calls to them with gcc and clang, observes at run time where the compiled code puts each argument and
 # result (tests/c/places.c says how), and compares that with the places that the proved program prints for the same library.
-# docs/CALL_PLACES.md describes the kinds of types for which a compiler departs from the rules.
+# docs/evidence/CALL_PLACES.md describes the kinds of types for which a compiler departs from the rules.
 #
 #   tests/call_places.sh                 builds the program of this repository
 #   ABI=/path/of/abi tests/call_places.sh    uses another one

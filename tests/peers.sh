@@ -1,6 +1,6 @@
 #!/usr/bin/env bash
 # Runs abidiff, of the package abigail-tools, on the edits of tests/c/edits.txt, and compares its answers with the tables of
-# docs/PEERS.md. It runs no program of this repository: the answers of `abi` come from the table of edits, which tests/typed_check.sh
+# docs/evidence/PEERS.md. It runs no program of this repository: the answers of `abi` come from the table of edits, which tests/typed_check.sh
 # checks against the program.
 #
 #   tests/peers.sh           compares with the page, which is about one version of abidiff
@@ -12,10 +12,10 @@ crate=
 . "$(dirname "$0")/common.bash"
 . "$root/tests/edits.bash"
 
-page=$root/docs/PEERS.md
+page=$root/docs/evidence/PEERS.md
 version=$(abidiff --version | awk '{ print $NF }')
 if [ "${1:-}" != --print ] && ! grep -q "abidiff $version\b" "$page"; then
-    why="abidiff $version is not the one of docs/PEERS.md"
+    why="abidiff $version is not the one of docs/evidence/PEERS.md"
     [ -n "${SKIP_MISSING_TOOLS:-}" ] || fail "$why (with SKIP_MISSING_TOOLS=1 this is left out)"
     told "nothing ran, since $why"
     exit 0
@@ -74,6 +74,6 @@ if [ "${1:-}" = --print ]; then
     cat tables
     exit 0
 fi
-grep '^|' "$page" | diff -u - tables >differences || { cat differences >&2 && fail "docs/PEERS.md has other tables"; }
-passed "docs/PEERS.md: $(cat differing_no differing_yes | wc -l) of $edits edits"
+grep '^|' "$page" | diff -u - tables >differences || { cat differences >&2 && fail "docs/evidence/PEERS.md has other tables"; }
+passed "docs/evidence/PEERS.md: $(cat differing_no differing_yes | wc -l) of $edits edits"
 finished

@@ -2,7 +2,7 @@
 
 usage: /usr/bin/python3 -m limits ABI GRAPH_LINES LIBRARY[,CHANGED]..
 
-Prints the table of docs/LIMITS.md, with a cell for each library: the count, the limit, and the percentage. CHANGED is another build of the
+Prints the table of docs/evidence/LIMITS.md, with a cell for each library: the count, the limit, and the percentage. CHANGED is another build of the
 library, for the row on reports. Below the table it prints how deeply types hold each other by value, how much they weigh and how long
 chains of origins are, each at most, and the weights of the rule files of examples/. Ends with status 1 if a library uses more than a
 tenth of a limit in the table.
@@ -109,11 +109,11 @@ def is_over(figures: Figures, row: Row) -> bool:
 
 
 def print_table(columns: dict[str, Figures]) -> None:
-    print("| What is counted | Words | Limit | " + " | ".join(columns) + " |")
-    print("|---" * (len(columns) + 3) + "|")
+    print("| What is counted | " + " | ".join(columns) + " |")
+    print("|---" * (len(columns) + 1) + "|")
     for row in ROWS:
         cells = (str(figures.get(row.name, "none")) for figures in columns.values())
-        print(f"| {row.counted} | {row.words} | {row.limit} | " + " | ".join(cells) + " |")
+        print(f"| {row.counted} | " + " | ".join(cells) + " |")
 
 
 def print_others(columns: dict[str, Figures]) -> None:

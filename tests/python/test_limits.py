@@ -19,6 +19,7 @@ from limits.graphs import Node  # noqa: E402
 from limits.rows import ROWS, Row  # noqa: E402
 
 _PAGE = ROOT / "docs" / "LIMITS.md"
+_MEASURED = ROOT / "docs" / "evidence" / "LIMITS.md"
 _SOURCE = """
 struct p { int x, y; union { int a; struct { short b, c; }; }; };
 static inline __attribute__((always_inline)) int next(int x) { return x + 1; }
@@ -28,7 +29,8 @@ int f(struct p *p, struct p q) { return next(p->x) + q.y; }
 
 @pytest.mark.parametrize("row", ROWS, ids=lambda row: str(row.name))
 def test_the_page_has_the_limits_of_the_sources(row: Row) -> None:
-    assert f"| {row.counted} | {row.words} | {row.limit} |" in _PAGE.read_text()
+    assert f"| {row.counted} | {row.words} | {row.limit} |\n" in _PAGE.read_text()
+    assert f"| {row.counted} | " in _MEASURED.read_text()
 
 
 def test_the_manual_page_has_the_limits_of_the_sources() -> None:
