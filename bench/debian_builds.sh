@@ -117,7 +117,7 @@ checked() {
     packages=("$2"/*.deb)
     for package in "${packages[@]}"; do dpkg-deb -x "$package" "$unpacked"; done
     for folder in "$unpacked"/usr/share/doc/*; do
-        [ -n "$(find "$folder/" -name '*.cert')" ] || continue
+        [ -n "$(find "$folder/" -name '*.cert*')" ] || continue
         abi-packages --verify "$folder" "${packages[@]}" -- "${packages[@]}" >"$1-checked.log" || true
         result=$(grep -o '^yes .*accepted certificate' "$1-checked.log" | head -n 1) || result="not accepted"
     done

@@ -2,12 +2,14 @@
 
 from __future__ import annotations
 
+import gzip
 import os
 import shutil
 from pathlib import Path
 from typing import NamedTuple
 
 import pytest
+from abi_tools.limits import LARGEST_FILE
 from conftest import FIRST, TOOLS, abi, done, run, shared, tool
 from package_support import CHANGED, Build, deb, parted
 
@@ -48,6 +50,23 @@ def test_a_certificate_is_checked_from_packages(made: Made) -> None:
     status, line = verify(made, *made.new)
     assert status == 0 and line == (f"yes {SONAME}: 2 exports compared, 2 with types; exports with types: old 2 of 2, new 2 of 2; "
                                     f"accepted certificate {made.certificates}/{SONAME}.cert")
+
+
+def test_a_compressed_certificate_is_inflated(made: Made) -> None:
+    """dh_compress leaves `NAME.cert.gz` of a certificate of more than 4 KiB. One that is damaged, cut short or too long is no yes."""
+    plain, place = made.certificates / f"{SONAME}.cert", made.certificates / f"{SONAME}.cert.gz"
+    packed = gzip.compress(plain.read_bytes())
+    plain.unlink()
+    place.write_bytes(packed)
+    status, line = verify(made, *made.new)
+    assert status == 0 and line.endswith(f"accepted certificate {place}"), line
+    for hostile in (packed[:-9], packed + b"more", packed[:20] + b"\xff" + packed[21:], gzip.compress(b"\n" * (LARGEST_FILE + 1)), b""):
+        place.write_bytes(hostile)
+        status, line = verify(made, *made.new)
+        assert status == 2 and line.startswith(f"cannot tell {SONAME}: {place} "), line
+    place.unlink()
+    place.symlink_to(made.certificates.parent / "old.deb")
+    assert verify(made, *made.new)[0] == 2
 
 
 def test_another_machine_accepts_it(made: Made, tmp_path: Path) -> None:

@@ -22,7 +22,7 @@ from abi_tools.package_sides import PackagedLibrary, Pair, Side, package_rules
 from abi_tools.shown import line_shown, name_shown
 from abi_tools.side_notes import PREFIX
 from abi_tools.verdicts import Verdict
-from abi_tools.verifying import Libraries, verified
+from abi_tools.verifying import Libraries, certificate_in, verified
 
 GONE, NEW, LEFT_OUT = "gone", "new", "left out"
 # What a file name of this machine may have of a name from a package, and how long it may be.
@@ -110,13 +110,13 @@ class Judging:
         """The judgement of `abi`, or that by the certificate."""
         abi, old, new = Abi(folder), Path("old", name), Path("new", name)
         if self.verifies:
-            return verified(abi, Libraries(old, new, rules), self.certificates / f"{name}.cert", self.least_share)
+            return verified(abi, Libraries(old, new, rules), certificate_in(self.certificates, name), self.least_share)
         return judge(abi, old, new, rules, self.least_share, self.is_strict)
 
     def _keep(self, name: str, judgement: Judgement) -> Sequence[str]:
         """Keeps the certificate of a yes or the report of a no of `abi`, and removes what an earlier run kept."""
         if self.verifies:
-            return [f"accepted certificate {self.certificates / name}.cert"] if judgement.answer is not None else []
+            return [f"accepted certificate {certificate_in(self.certificates, name)}"] if judgement.answer is not None else []
         for suffix in (".cert", ".report"):
             (self.certificates / f"{name}{suffix}").unlink(missing_ok=True)
         answer = judgement.answer

@@ -14,6 +14,7 @@ from abi_tools.elf_files import ElfFile
 from abi_tools.faults import Fault
 from abi_tools.gates import Judgement, Library, judge_answer
 from abi_tools.limits import LARGEST_FILE
+from abi_tools.streams import inflated
 from abi_tools.verdicts import Verdict
 
 # The name in the folder in which `abi` runs.
@@ -70,8 +71,31 @@ def _is_of_others(checked: Answer) -> bool:
     return checked.status == _REFUSED and checked.text.startswith("refused 70 OtherInput ")
 
 
+def certificate_in(folder: Path, name: str) -> Path:
+    """The certificate of the library `name` in a folder: `NAME.cert` or, if there is none, the `NAME.cert.gz` that dh_compress makes of
+    a longer one. Raises a fault if there is neither."""
+    for place in (folder / f"{name}.cert", folder / f"{name}.cert.gz"):
+        if os.path.lexists(place):
+            return place
+    raise Fault(f"there is no certificate {folder / name}.cert")
+
+
 def _text(certificate: Path) -> bytes:
-    """The bytes of a certificate. Raises a fault if there is none, or no regular file: the folder may have come in a package."""
+    """The bytes of a certificate, inflated. Raises a fault if it is no regular file (the folder may have come in a package) or is too
+    long."""
+    text = _stored(certificate)
+    if certificate.suffix != ".gz":
+        return text
+    plain = bytearray()
+    for piece in inflated(iter((text,)), ".gz", certificate):
+        plain += piece
+        if len(plain) > LARGEST_FILE:
+            raise Fault(f"{certificate} inflates to more than {LARGEST_FILE} bytes")
+    return bytes(plain)
+
+
+def _stored(certificate: Path) -> bytes:
+    """The bytes of the file that a certificate is."""
     try:
         file = os.open(certificate, os.O_RDONLY | os.O_NOFOLLOW | os.O_NONBLOCK | os.O_CLOEXEC)
     except FileNotFoundError as error:
