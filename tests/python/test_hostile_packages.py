@@ -24,6 +24,7 @@ from fuzz_packages import corpus as fuzzed
 from abi_tools import archives, jobs
 from abi_tools.archives import Archive
 from abi_tools.elf_files import ElfFile
+from abi_tools.shown import line_shown
 
 SONAME = "libshapes.so.1"
 
@@ -334,6 +335,15 @@ def test_a_soname_of_any_bytes_forges_no_line(build: Build, tmp_path: Path) -> N
             assert len(ended.out.splitlines()) == 2
     for place in (tmp_path / "certificates").iterdir():
         assert place.name.isascii() and place.name.isprintable() and "/" not in place.name
+
+
+@pytest.mark.parametrize("text, shown", [
+    ("yes \u0105 \u05d0", "yes \u0105 \u05d0"), ("x\nyes", r"x\x0ayes"), ("\x1b[2J", r"\x1b[2J"), ("\u202e", r"\xe2\x80\xae"), ("\udcff", r"\xff"),
+    ("\u05fb", r"\xd7\xbb"), ("\ue000", r"\xee\x80\x80"), ("\u2028", r"\xe2\x80\xa8")])
+def test_what_a_line_shows(text: str, shown: str) -> None:
+    """Letters, a newline, an escape sequence, a turn of direction, a byte that is no UTF-8, a number that no character has, a character for
+    private use, and a separator of lines."""
+    assert line_shown(text) == shown and shown.isprintable()
 
 
 def rules_deb(path: Path, library: bytes, *members: Member) -> Path:

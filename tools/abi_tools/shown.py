@@ -2,13 +2,8 @@
 
 from __future__ import annotations
 
-import unicodedata
-
 # The bytes of a name that are printed as they are: those of printable ASCII but the blank and the backslash.
 _FIRST, _LAST, _BACKSLASH = 0x21, 0x7E, 0x5C
-# Unicode categories of characters that are not printed: control characters, format characters (those that turn the direction of a line
-# among them), surrogates (bytes that are no UTF-8), and the separators of lines and paragraphs.
-_UNPRINTED = ("Cc", "Cf", "Cs", "Zl", "Zp")
 
 
 def name_shown(name: str) -> str:
@@ -19,11 +14,10 @@ def name_shown(name: str) -> str:
 
 
 def line_shown(text: str) -> str:
-    """A text in one line: each character that moves the cursor, turns the line or is no UTF-8 as `\\x` and two hexadecimal digits for
-    each byte, and each other character as it is."""
-    if text.isascii() and text.isprintable():
-        return text
-    return "".join(_character_shown(one) for one in text)
+    """A text in one line: each printable character as it is, and each byte of any other one as `\\x` and two hexadecimal digits. Not
+    printable are control and format characters (those that turn a line among them), separators but the blank, characters for private
+    use or of no meaning, and bytes that are no UTF-8."""
+    return text if text.isprintable() else "".join(map(_character_shown, text))
 
 
 def lines_shown(text: str) -> str:
@@ -32,6 +26,6 @@ def lines_shown(text: str) -> str:
 
 
 def _character_shown(character: str) -> str:
-    if unicodedata.category(character) not in _UNPRINTED:
+    if character.isprintable():
         return character
     return "".join(f"\\x{byte:02x}" for byte in character.encode("utf-8", "surrogateescape"))
