@@ -1,11 +1,10 @@
 """Makes two releases of many small packages, each with one library of its own.
 
-usage: python3 bench/made_release.py [--distinct N] [--maker TRIAL_LIBRARY] FOLDER COUNT
+usage: python3 bench/made_release.py [--distinct N] FOLDER COUNT
 
-FOLDER/old and FOLDER/new get COUNT packages each, a hundred in a folder. The libraries have 1 to 60 functions; the program TRIAL_LIBRARY
-(of crates/tool_trial_library) writes them or, without it, gcc makes them. A number in the header of each (e_flags, which nothing reads)
-makes it a different file; after N different ones they repeat. In the new release every tenth library has lost exports. It uses all
-processors: 30,000 pairs take two minutes of processor time, and half a gigabyte of disk with libraries of gcc.
+FOLDER/old and FOLDER/new get COUNT packages each, a hundred in a folder. The libraries, which gcc makes, have 1 to 60 functions. A number in
+the header of each (e_flags, which nothing reads) makes it a different file; after N different ones they repeat. In the new release every
+tenth library has lost exports. It uses all processors: 30,000 pairs take two minutes of processor time and half a gigabyte of disk.
 """
 
 from __future__ import annotations
@@ -36,12 +35,11 @@ def main() -> None:
     """Makes the releases."""
     parser = argparse.ArgumentParser()
     parser.add_argument("--distinct", type=int)
-    parser.add_argument("--maker")
     parser.add_argument("folder", type=Path)
     parser.add_argument("count", type=int)
     given = parser.parse_args()
     folder, count = given.folder, given.count
-    maker = _by_program(given.maker) if given.maker else _by_gcc(folder)
+    maker = _by_gcc(folder)
     with ThreadPoolExecutor(os.cpu_count()) as threads:
         made = {side: list(threads.map(maker, range(1, _KINDS + 1), itertools.repeat(side))) for side in ("old", "new")}
     numbers = [range(first, min(first + _IN_A_FOLDER, count)) for first in range(0, count, _IN_A_FOLDER)]
@@ -75,15 +73,6 @@ def _write_packages(numbers: range) -> None:
             library = bytearray(_Made.libraries[side][kind])
             _FLAGS_AT[0].pack_into(library, _FLAGS_AT[1], number % _Made.distinct)
             _write_deb(folder, number, side, bytes(library))
-
-
-def _by_program(program: str) -> Maker:
-    """A function that makes a library of some functions, as `abi trial` makes it."""
-
-    def make(functions: int, side: str) -> bytes:
-        return subprocess.run([program, str(functions), side], stdout=subprocess.PIPE, check=True).stdout
-
-    return make
 
 
 def _by_gcc(folder: Path) -> Maker:

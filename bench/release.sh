@@ -8,7 +8,7 @@
 #
 # usage: bench/release.sh [ABI [PAIRS:WORKERS[,WORKERS]..]..]
 #            (default: the program that `rt run` built, and the sets 3000:1,2,4 and 30000:1,2,4)
-#        TRIAL_LIBRARY=/path/of/tool_trial_library DISTINCT=N bench/release.sh ..
+#        DISTINCT=N bench/release.sh ..
 #
 # 30,000 pairs take 2 GB of disk: half of it or more for the packages, and the rest for the results of one run.
 set -eu
@@ -21,7 +21,7 @@ mkdir -p "$folder"
 # make PAIRS: makes the two releases.
 make() {
     rm -rf "$folder/old" "$folder/new" "$folder"/out*
-    /usr/bin/python3 "$top/bench/made_release.py" ${DISTINCT:+--distinct "$DISTINCT"} ${TRIAL_LIBRARY:+--maker "$TRIAL_LIBRARY"} "$folder" "$1"
+    /usr/bin/python3 "$top/bench/made_release.py" ${DISTINCT:+--distinct "$DISTINCT"} "$folder" "$1"
 }
 
 # judge OUT WORKERS: does a run, with its output in the files `said` and `errors`.

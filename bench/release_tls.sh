@@ -10,8 +10,7 @@ pairs=${2:-30000} workers=${3:-4} times=${4:-1}
 folder=$PWD/release
 mkdir -p "$folder"
 rm -rf "$folder/old" "$folder/new" "$folder"/out*
-/usr/bin/python3 "$top/bench/made_release.py" ${DISTINCT:+--distinct "$DISTINCT"} ${TRIAL_LIBRARY:+--maker "$TRIAL_LIBRARY"} \
-    "$folder" "$pairs"
+/usr/bin/python3 "$top/bench/made_release.py" ${DISTINCT:+--distinct "$DISTINCT"} "$folder" "$pairs"
 
 # The same tool, with plain TCP between its processes.
 cat >"$folder/plain.py" <<END
