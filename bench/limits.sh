@@ -1,8 +1,8 @@
 #!/usr/bin/env bash
-# Measures how much of each limit of docs/LIMITS.md ordinary libraries take: the C library of the running system joined with its debug
-# information, libcrypto of OpenSSL if bench/openssl.sh has built it, and generated C by gcc. Each is compared with itself, and the last
-# two also with a build in which one structure is changed. If there is another C library in bench/made/check/libc_changed.so, the first is
-# compared with that. Prints a table, and ends with status 1 if a library takes more than a tenth of a limit.
+# Measures how much of each limit of docs/manual/LIMITS.md ordinary libraries take: the C library of the running system joined with its
+# debug information, libcrypto of OpenSSL if bench/openssl.sh has built it, and generated C by gcc. Each is compared with itself, and the
+# last two also with a build in which one structure is changed. If there is another C library in bench/made/check/libc_changed.so, the
+# first is compared with that. Prints a table, and ends with status 1 if a library takes more than a tenth of a limit.
 #
 # usage: bench/limits.sh [ABI [GRAPH_LINES]]   (default: the programs that `rt run` built in crates/abi_cli/out and
 #                                              crates/tool_graph_lines/out)

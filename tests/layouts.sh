@@ -1,7 +1,7 @@
 #!/usr/bin/env bash
 # Compares the layouts that the proved program prints with pahole's: for structures made for this test, and for those of the C library
-# and of other libraries with debug information. Sizes, members, holes and padding must agree; docs/LAYOUTS.md lists what pahole counts
-# in another way.
+# and of other libraries with debug information. Sizes, members, holes and padding must agree; docs/manual/LAYOUTS.md lists what pahole
+# counts in another way.
 #
 #   tests/layouts.sh                 builds the program of this repository
 #   ABI=/path/of/abi tests/layouts.sh    uses another one

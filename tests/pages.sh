@@ -14,8 +14,8 @@ tools="gcc g++ abidiff objcopy strip make dh dpkg-buildpackage python3 bsdtar /u
 crate=abi_cli
 print=
 [ "${1:-}" != --print ] || { print=--print && shift; }
-[ $# -gt 0 ] || set -- README.md docs/GUIDE.md docs/FAQ.md docs/RULE_FILES.md docs/LAYOUTS.md docs/PACKAGES.md \
-    docs/REPORTS.md docs/APPLICATIONS.md docs/RELEASES.md
+[ $# -gt 0 ] || set -- README.md docs/GUIDE.md docs/FAQ.md docs/RULE_FILES.md docs/PACKAGES.md \
+    docs/manual/REPORTS.md docs/manual/LAYOUTS.md docs/manual/APPLICATIONS.md docs/manual/RELEASES.md
 pages=$*
 . "$(dirname "$0")/common.bash"
 

@@ -1,5 +1,5 @@
-"""The rows of docs/LIMITS.md: for each limit what is counted, by which words `abi` names it, and how much there may be. The words and the
-numbers come from the sources."""
+"""The rows of docs/manual/LIMITS.md: for each limit what is counted, by which words `abi` names it, and how much there may be. The words
+and the numbers come from the sources."""
 
 from __future__ import annotations
 

@@ -1,5 +1,5 @@
 """The numbers and names of faults, from the tables of docs/SPECIFICATION.md; those of certificates and refusals; and the words of
-limits (docs/LIMITS.md)."""
+limits (docs/manual/LIMITS.md)."""
 
 import re
 from pathlib import Path
@@ -37,7 +37,7 @@ REFUSALS = {
     76: "Rule",
     77: "Partner",
 }
-# What limits count, in the words of docs/LIMITS.md.
+# What limits count, in the words of docs/manual/LIMITS.md.
 LIMITS = {
     "dynamic symbols",
     "version definitions",

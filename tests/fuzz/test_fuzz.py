@@ -65,7 +65,7 @@ def test_bad_answers() -> None:
 
 
 def test_limits_of_the_page_are_known() -> None:
-    page = Path(__file__).resolve().parents[2] / "docs" / "LIMITS.md"
+    page = Path(__file__).resolve().parents[2] / "docs" / "manual" / "LIMITS.md"
     table = page.read_text().split("| What is counted | Words |")[1].split("\n\n")[0]
     words = {row.split(" | ")[1] for row in table.splitlines()[2:]}
     assert len(words) > 20 and words <= LIMITS, words - LIMITS

@@ -1,4 +1,4 @@
-"""docs/LIMITS.md agrees with the sources, and bench/limits counts what was counted by hand."""
+"""docs/manual/LIMITS.md agrees with the sources, and bench/limits counts what was counted by hand."""
 
 from __future__ import annotations
 
@@ -18,7 +18,7 @@ from limits.figures import Figure, constant, rate  # noqa: E402
 from limits.graphs import Node  # noqa: E402
 from limits.rows import ROWS, Row  # noqa: E402
 
-_PAGE = ROOT / "docs" / "LIMITS.md"
+_PAGE = ROOT / "docs" / "manual" / "LIMITS.md"
 _MEASURED = ROOT / "docs" / "evidence" / "LIMITS.md"
 _SOURCE = """
 struct p { int x, y; union { int a; struct { short b, c; }; }; };

@@ -607,7 +607,7 @@ def test_unpacked_trees(tmp_path: Path) -> None:
 
 def test_the_packages_of_a_mirror(tmp_path: Path) -> None:
     """The commands of the page take the packages of each release out of a pool that has both."""
-    page = (ROOT / "docs/RELEASES.md").read_text()
+    page = (ROOT / "docs/manual/RELEASES.md").read_text()
     commands = page.partition("## From a mirror")[2].partition("```sh\n")[2].partition("```")[0]
     mirror = tmp_path / "mirror"
     pool = mirror / "pool/main/m/made"
