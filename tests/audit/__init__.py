@@ -1,0 +1,1 @@
+"""Makes the pages of docs/evidence/ that are read off the sources."""
