@@ -1,8 +1,8 @@
 """Whether each clause that a page names is there: tests/claims.sh says how it is called.
 
-The tables of docs/PROOFS.md name calls and clauses themselves. tests/claims/*.tsv names, for each sentence of other pages that says what is
-proved, the call and the clauses that say so, or a dash where a sentence claims no proof. A sentence is named by some of its words. Each
-sentence of README's section on what is proved, and each on a command of the manual, must be named.
+The tables of docs/PROOFS.md name calls and clauses themselves, in a column of their own or in parentheses. tests/claims/*.tsv names, for each
+sentence of other pages that says what is proved, the call and the clauses that say so, or a dash where a sentence claims no proof. A sentence
+is named by some of its words. Each sentence of README's section on what is proved, and each on a command of the manual, must be named.
 """
 
 from __future__ import annotations
@@ -90,6 +90,13 @@ def faults_of_cell(cell: str) -> list[str]:
     return faults
 
 
+def faults_of_text(text: str, crates: list[str]) -> list[str]:
+    """The faults of a text that names calls and clauses of these crates in parentheses, behind what they say."""
+    parts = [part for group in re.findall(r"\((`[^()]*)\)", text) for part in group.split(";")]
+    found = [[faults_of_part(part, crate)[0] for crate in crates] for part in parts]
+    return [fault for faults in found if all(faults) for fault in faults[0]]
+
+
 def rows_of(page: Path) -> Iterator[tuple[str, list[str]]]:
     """The rows of the tables of a page, each with the head of its last column."""
     head = ""
@@ -115,6 +122,8 @@ def faults_of_proofs() -> tuple[int, list[str]]:
             wrong += [fault for name in named if "::" in name for fault in faults_of_cell(f"`{name}`")]
         elif "Call" in head:
             wrong = faults_of_cell(cell)
+        elif head == "What is proved":
+            wrong = faults_of_text(cell, re.findall(NAME, cells[0]))
         else:
             continue
         count += 1
