@@ -1,6 +1,6 @@
 #!/usr/bin/env bash
 # Compares the layouts that the proved program prints with pahole's: for structures made for this test, and for those of the C library
-# and of other libraries with debug information. Sizes, members, holes and padding must agree; docs/manual/LAYOUTS.md lists what pahole
+# and of other libraries with debug information. Sizes, members, holes and padding must agree; docs/evidence/PAHOLE.md lists what pahole
 # counts in another way.
 #
 #   tests/layouts.sh                 builds the program of this repository
