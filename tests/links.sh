@@ -1,5 +1,6 @@
 #!/usr/bin/env bash
-# Checks that each relative link of a page leads to a file or a heading, and that each path of this repository that a page names is there.
+# Checks that each relative link of a page leads to a file or a heading, that each path of this repository that a page names is there, and
+# that a page with many sections begins with links to all of them.
 set -euo pipefail
 title="links"
 tools="python3"

@@ -131,7 +131,8 @@ def crate_section(crate: str) -> Iterator[str]:
 
 def contracts_page() -> str:
     """The page on the contracts of each crate."""
-    return "\n".join([_CONTRACTS, *(line for crate in CRATES for line in crate_section(crate))])
+    contents = ", ".join(f"[{crate}](#{crate})" for crate in CRATES if contracts_of(crate))
+    return "\n".join([_CONTRACTS, contents, "", *(line for crate in CRATES for line in crate_section(crate))])
 
 
 PAGES = {EVIDENCE / "AUDIT.md": audit_page, EVIDENCE / "CONTRACTS.md": contracts_page}

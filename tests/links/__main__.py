@@ -1,4 +1,5 @@
-"""Whether each link of a page leads somewhere, and each path that a page names is there: tests/links.sh says how it is called.
+"""Whether each link of a page leads somewhere, each path that a page names is there, and each section of a long page is in its contents:
+tests/links.sh says how it is called.
 
 A relative link leads to a file or a folder, and what stands behind its `#` is a heading of that page. A path in backticks that begins with a
 folder of this repository leads to a file or a folder too, unless it has a word in capitals in place of a name, or a star.
@@ -16,6 +17,8 @@ ROOT = Path(__file__).resolve().parents[2]
 FOLDERS = ("bench", "crates", "docs", "edits", "examples", "share", "tests", "tools")
 # What is made, or kept, and not part of the repository.
 MADE = {".git", "made", "out"}
+# A page with so many sections begins with its contents.
+MANY = 7
 
 
 def pages() -> list[Path]:
@@ -28,13 +31,18 @@ def prose(page: Path) -> str:
     return re.sub(r"^( *)```.*?^\1```", "", page.read_text(encoding="utf-8"), flags=re.MULTILINE | re.DOTALL)
 
 
+def anchor_of(heading: str) -> str:
+    """The anchor of a heading, as GitHub makes it for the first of its name."""
+    text = re.sub(r"\[([^]]*)\]\([^)]*\)", r"\1", heading.strip())
+    return re.sub(r"[^\w\- ]", "", text.lower()).replace(" ", "-")
+
+
 @cache
 def anchors(page: Path) -> frozenset[str]:
     """The anchors of the headings of a page, as GitHub makes them."""
     found = list[str]()
     for heading in re.findall(r"^#+ +(.*?) *$", prose(page), flags=re.MULTILINE):
-        text = re.sub(r"\[([^]]*)\]\([^)]*\)", r"\1", heading)
-        anchor = re.sub(r"[^\w\- ]", "", text.lower()).replace(" ", "-")
+        anchor = anchor_of(heading)
         found.append(f"{anchor}-{found.count(anchor)}" if anchor in found else anchor)
     return frozenset(found)
 
@@ -61,6 +69,15 @@ def faults_of_paths(page: Path) -> Iterator[tuple[str, str | None]]:
             yield path, None if (ROOT / path).exists() else f"there is no {path}"
 
 
+def faults_of_contents(page: Path) -> Iterator[tuple[str, str | None]]:
+    """Each section of a page that has many, with its fault if nothing above the first section leads to it."""
+    head, *sections = re.split(r"^## +", prose(page), flags=re.MULTILINE)
+    led = set(re.findall(r"\]\(#([^)\s]+)\)", head))
+    for title in (section.partition("\n")[0] for section in sections if len(sections) >= MANY):
+        found = anchor_of(title)
+        yield title, None if found in led else f"no link above the first section leads to {found}"
+
+
 def main() -> int:
     """Checks all pages. The pages of edits name files as they were when an edit was tried."""
     count, faults = 0, list[str]()
@@ -69,6 +86,8 @@ def main() -> int:
         found = list(faults_of_links(page))
         if name.parts[0] not in ("edits", "CHANGELOG.md"):
             found += faults_of_paths(page)
+        if name.parts[0] in ("README.md", "CONTRIBUTING.md", "docs"):
+            found += faults_of_contents(page)
         count += len(found)
         faults += [f"{name}: {text}: {fault}" for text, fault in found if fault]
     print(*faults, sep="\n", end="\n" if faults else "", file=sys.stderr)
