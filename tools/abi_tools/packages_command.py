@@ -55,9 +55,9 @@ def main(arguments: Sequence[str]) -> int:
     if new is None and given.fetch:
         given.old, new = [], [str(file) for file in given.old]
     if not new:
-        parser.error("the new packages are missing: they come after --")
+        parser.error("the new packages are missing: they come after --; or --fetch gets the old ones")
     if given.mirror and not given.fetch:
-        parser.error("--mirror says where --fetch looks")
+        parser.error("--mirror says where --fetch looks: give --fetch, too")
     if any(name.startswith("-") for name in new):
         parser.error("options come before the --")
     if given.verify is not None and given.keep is not None:
