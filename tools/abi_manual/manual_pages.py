@@ -35,6 +35,7 @@ def abi_page(manual: Manual) -> str:
         *_statuses(manual), ".PP", "With each status from 2 on, a sentence on standard error says what is wrong.",
         ".SH RULES", *sentences(_RULES), *_rules(),
         *environment(manual, _READ_BY_ABI),
+        ".SH FILES", *paragraphs(source["files"]),
         ".SH LIMITS", *paragraphs(source["limits"]),
         *_examples(source["example"]),
         *see_also(["abi-json", *manual.tools, *_ELSEWHERE, "abidiff", "readelf", "pahole"]),
