@@ -4,6 +4,7 @@ from __future__ import annotations
 
 import contextlib
 import http.server
+import shlex
 import shutil
 import threading
 from functools import partial
@@ -11,7 +12,7 @@ from pathlib import Path
 from typing import Iterator, NamedTuple
 
 import pytest
-from conftest import FIRST, SECOND, Ended, build_id, done, needs, shared, split, tool
+from conftest import FIRST, SECOND, TOOLS, Ended, build_id, done, needs, run, shared, split, tool
 from package_support import CHANGED, LIBRARIES, Build, deb, packages, parted, rpm
 
 SONAME = "libshapes.so.1"
@@ -91,6 +92,17 @@ def test_a_new_package_alone_has_an_answer(versions: dict[str, Version], tmp_pat
             f"abi-packages: old: fetched libshapes1 {before} amd64", f"abi-packages: old: fetched libshapes1-dbgsym {before} amd64",
             f"abi-packages: new: fetched libshapes1-dbgsym {version} amd64"], ended.errors
     assert list((tmp_path / "new0").iterdir()) == [tmp_path / "new0/libshapes1.deb"]
+
+
+def test_a_terminal_sees_that_something_is_fetched(versions: dict[str, Version], tmp_path: Path, monkeypatch: pytest.MonkeyPatch) -> None:
+    """apt may take half a minute."""
+    archive(tmp_path, [file for version in versions.values() for file in version])
+    known(tmp_path, monkeypatch)
+    new = alone(tmp_path / "new", versions["1:1.10-1+deb12u1"].package)
+    command = shlex.join(map(str, (TOOLS / "abi-packages", "--certificates", tmp_path / "kept", "--fetch", new)))
+    ended = run("script", "--quiet", "--return", "--command", f"TERM=xterm {command} >{tmp_path}/out", tmp_path / "terminal")
+    assert ended.status == 0 and ended.out.index("fetching what is not given") < ended.out.index("old: fetched libshapes1"), ended
+    assert (tmp_path / "out").read_text().startswith(f"yes {SONAME}: "), ended
 
 
 def test_debug_packages_beside_a_new_package_are_taken(versions: dict[str, Version], tmp_path: Path,

@@ -187,6 +187,14 @@ def test_what_is_no_package_is_refused(old: tuple[Path, Path], tmp_path: Path) -
     assert ended.status == 2 and "no library is in the old packages" in ended.errors
 
 
+def test_without_abi_no_package_is_read(old: tuple[Path, Path], tmp_path: Path, monkeypatch: pytest.MonkeyPatch) -> None:
+    """One sentence, and not one for each library."""
+    monkeypatch.setenv("ABI", "abi-that-is-nowhere")
+    ended = packages(tmp_path, *old, "--", *old)
+    said = "abi-packages: there is no program abi-that-is-nowhere: put abi on the PATH, or name it by the variable ABI\n"
+    assert (ended.status, ended.out, ended.errors) == (2, "", said), ended
+
+
 def mirror(folder: Path, packages_of_it: Sequence[Path]) -> list[str]:
     """A mirror of packages on this machine. Returns the options with which apt-get uses only this mirror."""
     pool, state = folder / "mirror", folder / "apt"

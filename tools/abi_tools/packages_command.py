@@ -11,6 +11,7 @@ from functools import partial
 from pathlib import Path
 from typing import Callable, Iterator, Optional, Sequence
 
+from abi_tools.abi_program import Abi
 from abi_tools.arguments import Arguments, ShowLimits, add_require_types, add_strict, address, number_above_0
 from abi_tools.counting import counted
 from abi_tools.debuginfod import Debuginfod
@@ -123,6 +124,8 @@ def _parted(arguments: Sequence[str]) -> tuple[list[str], Optional[list[str]]]:
 def _judge(given: argparse.Namespace, new: Sequence[Path]) -> Verdict:
     if given.rules is not None and not given.rules.is_file():
         raise Fault(f"there is no rule file {given.rules}")
+    # Without the program no package need be read.
+    Abi()
     if given.verify is None:
         given.certificates.mkdir(parents=True, exist_ok=True)
     elif not given.verify.is_dir():
@@ -151,7 +154,8 @@ def _fetched(given: argparse.Namespace, new: Sequence[Path], folder: Path, limit
     from abi_tools.fetching import Completed, completed
 
     folder.mkdir()
-    _, found = next(Steps[Completed](limits, 1).run([partial(completed, given.old, new, folder, given.mirror)]))
+    with Progress(1, "fetching what is not given", 1):
+        _, found = next(Steps[Completed](limits, 1).run([partial(completed, given.old, new, folder, given.mirror)]))
     if isinstance(found, Failure):
         raise Fault(found.reason)
     for note in found.notes:
