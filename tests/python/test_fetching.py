@@ -130,6 +130,19 @@ def test_debug_packages_of_given_packages_are_fetched(versions: dict[str, Versio
     assert ended.status == 0 and len(ended.errors.splitlines()) == 2, ended
 
 
+def test_it_is_told_that_an_archive_lacks_debug_packages(versions: dict[str, Version], tmp_path: Path,
+                                                         monkeypatch: pytest.MonkeyPatch) -> None:
+    """As with the usual sources of Debian, where only the debug archive has them. Those of the other side are there."""
+    archive(tmp_path, [versions["1:1.10-1"].package, versions["1:1.10-1+deb12u1"].debug])
+    known(tmp_path, monkeypatch)
+    ended = packages(tmp_path, "--fetch", versions["1:1.10-1+deb12u1"].package)
+    assert ended.status == 2 and "there is no debug file of" in ended.out, ended
+    assert ended.errors.splitlines() == [
+        "abi-packages: old: fetched libshapes1 1:1.10-1 amd64",
+        "abi-packages: old: the archive has no debug information of libshapes1 1:1.10-1 amd64: many archives keep -dbgsym packages apart",
+        "abi-packages: new: fetched libshapes1-dbgsym 1:1.10-1+deb12u1 amd64"], ended
+
+
 def test_a_dbg_package_of_the_same_source_is_fetched(build: Build, tmp_path: Path, monkeypatch: pytest.MonkeyPatch) -> None:
     """The one of the same build, where the source has been built again."""
     needs("apt-get", "dpkg-scanpackages")
@@ -276,7 +289,7 @@ def test_a_server_that_does_not_answer_is_no_lack_of_debug_files(rpms: tuple[lis
         ended = packages(tmp_path, "--debuginfod", server, old, "--", new)
         assert ended.status == 2 and "HTTP Error 503" in ended.out and "there is no debug file" not in ended.out, ended
     ended = packages(tmp_path, "--debuginfod", server, old, "--", new)
-    assert ended.status == 2 and "refused" in ended.out, ended
+    assert ended.status == 2 and "debuginfo: Connection refused" in ended.out, ended
 
 
 def test_a_debug_file_of_any_size_is_no_matter(rpms: tuple[list[Path], Path], tmp_path: Path, monkeypatch: pytest.MonkeyPatch) -> None:

@@ -11,7 +11,8 @@ from typing import Sequence
 from abi_tools.deb_control import DEBUG, About, about, about_fields
 from abi_tools.faults import Fault, said_of_signal
 
-_ALL = "all"
+# The architecture of packages that are for all of them.
+ALL = "all"
 _PRIVATE = """\
 Dir::State "{folder}/state";
 Dir::State::status "{folder}/status";
@@ -105,7 +106,7 @@ class AptArchive:
 
 def _named(name: str, architecture: str) -> str:
     """A package as apt names it."""
-    return name if architecture == _ALL else f"{name}:{architecture}"
+    return name if architecture == ALL else f"{name}:{architecture}"
 
 
 def _private(folder: Path, mirrors: Sequence[str]) -> Path:
