@@ -399,6 +399,20 @@ def test_a_bomb_is_refused_or_costs_no_memory(old: Path, tmp_path: Path, way: st
             assert status == (2 if start else 1), said
 
 
+def test_a_sparse_file_is_refused_before_its_zeros_are_made(old: Path, tmp_path: Path) -> None:
+    """Twenty kilobytes of an archive that stand for a library of 8 GB, in both forms of GNU tar. dpkg installs neither."""
+    (tmp_path / "usr/lib").mkdir(parents=True)
+    with (tmp_path / "usr/lib" / SONAME).open("wb") as stream:
+        stream.write(b"\x7fELF")
+        stream.truncate(8 << 30)
+    for form, words in (("gnu", "a sparse file"), ("posix", "a header of pax")):
+        done("tar", "--sparse", f"--format={form}", "-cf", tmp_path / "data", "usr", folder=tmp_path)
+        new = packed(tmp_path / f"{form}.deb", ("data.tar", (tmp_path / "data").read_bytes()))
+        assert new.stat().st_size < 32768
+        status, megabytes, said = peak(["--certificates", tmp_path / "kept", old, "--", new])
+        assert status == 2 and words in said and megabytes < 200, (status, megabytes, said)
+
+
 def test_a_file_that_is_too_large_is_named(old: Path, good: bytes, tmp_path: Path) -> None:
     """A library of 300 MB gets `cannot tell` with its size; the other one of its package is judged."""
     large = good + bytes(300 << 20)

@@ -5,7 +5,7 @@ from __future__ import annotations
 from pathlib import Path
 
 import pytest
-from conftest import tool
+from conftest import script, tool
 
 _PACKAGES = ("one.deb", "--", "two.deb")
 
@@ -30,6 +30,18 @@ def test_a_sentence_says_what_is_wrong(name: str, arguments: tuple[str, ...], sa
     ended = tool(name, *arguments)
     assert (ended.status, ended.out) == (64, ""), ended
     assert ended.errors.startswith(f"usage: {name} ") and ended.errors.splitlines()[-1] == f"{name}: {said}", ended
+
+
+@pytest.mark.parametrize("name", ("abi-baseline", "abi-gate", "abi-history", "abi-packages", "abi-release", "abi-report", "join-debug",
+                                  "make-packages"))
+def test_all_tools_have_one_convention(name: str, tmp_path: Path) -> None:
+    """64 for wrong arguments, and the usage; 2 and a sentence where a file is missing. 1 means no."""
+    ended = script(name, "--not-an-option")
+    assert (ended.status, ended.out) == (64, "") and ended.errors.startswith(f"usage: {name} "), ended
+    files = {"abi-packages": ("none.deb", "--", "none.deb"), "abi-history": ("1=none.so", "2=none.so"), "abi-release": ("--out", "out", "old", "new"),
+             "make-packages": ("--version", "1", "prefix", "made")}
+    ended = script(name, *files.get(name, ("none.so", "other.so")), folder=tmp_path)
+    assert ended.status == 2 and len((ended.errors or ended.out).splitlines()) == 1, ended
 
 
 def test_a_folder_is_no_package(tmp_path: Path) -> None:
