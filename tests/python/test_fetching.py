@@ -163,6 +163,29 @@ def test_a_dbg_package_of_the_same_source_is_fetched(build: Build, tmp_path: Pat
         "abi-packages: new: fetched shapes-dbg 2 amd64"], ended
 
 
+def test_libraries_of_fetched_debug_packages_are_not_judged(build: Build, tmp_path: Path, monkeypatch: pytest.MonkeyPatch) -> None:
+    """As of Debian's Python: the package that is named after that of the library has a build for debugging, in which all changes, and
+    another package of the source has the debug files."""
+    needs("apt-get", "dpkg-scanpackages")
+    files: dict[str, list[Path]] = {}
+    for version, text, debugging in (("1", FIRST, FIRST), ("2", SAME, CHANGED)):
+        library, debug, _ = parted(build, tmp_path, text, f"built{version}", SONAME)
+        other = build(f"debugging{version}.so", debugging, soname="libdebugging.so.1")
+        for name, contents in (("libshapes1", library), ("libshapes1-dbg", {"usr/lib/libdebugging.so.1": other}), ("shapes-dbg", debug)):
+            folder = tmp_path / f"{name}-{version}"
+            folder.mkdir()
+            files.setdefault(version, []).append(deb(folder, name, contents, version=f"{version}\nSource: shapes"))
+    archive(tmp_path, [file for made in files.values() for file in made])
+    known(tmp_path, monkeypatch)
+    old, new = files.values()
+    for given in (new[:1], new[:2], (*old[:2], "--", *new[:1]), (old[0], "--", *new[:2])):
+        ended = packages(tmp_path, "--fetch", *given)
+        assert ended.status == 0 and ended.out.splitlines()[-1] == "1 library: 1 yes", ended
+        assert "exports with types: old 2 of 2, new 2 of 2" in ended.out
+        assert ended.errors.count("fetched shapes-dbg") == 2 and "has no debug information" not in ended.errors, ended
+    assert packages(tmp_path, *old, "--", *new).status == 1
+
+
 def test_a_mirror_stands_for_the_sources_of_apt(versions: dict[str, Version], tmp_path: Path, monkeypatch: pytest.MonkeyPatch) -> None:
     archive(tmp_path / "empty", [])
     known(tmp_path / "empty", monkeypatch)

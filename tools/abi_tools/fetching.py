@@ -22,10 +22,12 @@ class _Package:
 
 @dataclass(frozen=True)
 class Completed:
-    """The files of both sides; and sentences on what was not given, and on packages without an earlier version or debug information."""
+    """The files of both sides, and how many of each may ship libraries: packages of debug information come behind these. And sentences on
+    what was not given, and on packages without an earlier version or debug information."""
 
     old: list[Path]
     new: list[Path]
+    shipping: tuple[int, int]
     notes: list[str]
 
 
@@ -42,8 +44,10 @@ def completed(old: Sequence[Path], new: Sequence[Path], folder: Path, mirrors: S
     notes = [note for name, side in zip(("old", "new"), sides) for note in _notes(name, side, (*old, *new))]
     notes += [f"the archive has no version of {one.about.name} before {one.about.version}"
               for one in news if not old and not one.about.is_debug and one.about.name not in first]
-    before, after = ([one.file or fetched[one.about] for one in side] for side in sides)
-    return Completed(before, after, notes)
+    ordered = [sorted(side, key=lambda one: one.about.is_debug) for side in sides]
+    before, after = ([one.file or fetched[one.about] for one in side] for side in ordered)
+    shipping = [sum(not one.about.is_debug for one in side) for side in sides]
+    return Completed(before, after, (shipping[0], shipping[1]), notes)
 
 
 def _notes(name: str, side: Sequence[_Package], given: Sequence[Path]) -> list[str]:
@@ -76,7 +80,7 @@ def _with_debug(side: Sequence[_Package], archive: AptArchive) -> list[_Package]
     """The packages of a side, and those of debug information that it lacks."""
     found = list(side)
     for one in side:
-        if not one.about.is_debug and not any(other.about.has_debug_of(one.about) for other in found):
+        if not one.about.is_debug and not any(other.about.is_made_beside(one.about) for other in found):
             known = {other.about for other in found}
             found += _beside(one) or [_Package(debug) for debug in archive.debug_packages(one.about) if debug not in known]
     return found
