@@ -42,6 +42,16 @@ def test_a_no_has_the_report_of_abi(old: tuple[Path, Path], build: Build, tmp_pa
     assert report.read_text() == abi("check", tmp_path / "old.so", whole).out
 
 
+def test_a_report_is_kept_where_it_cannot_be_told(old: tuple[Path, Path], build: Build, tmp_path: Path) -> None:
+    """`abi` says no since the debug package of the new library is missing; its report says what it saw."""
+    library, _, _ = parted(build, tmp_path, FIRST, "new", "libshapes.so.1")
+    ended = packages(tmp_path, *old, "--", deb(tmp_path, "new", library))
+    report = tmp_path / "certificates/libshapes.so.1.report"
+    assert ended.status == 2 and ended.out.startswith("cannot tell libshapes.so.1: the types of 2 exports are gone: "), ended
+    assert f"; report {report}; " in ended.out
+    assert sorted(report.read_text().splitlines()) == ["X6 area: type gone", "X6 call: type gone", "no"]
+
+
 def test_a_no_may_keep_both_libraries(old: tuple[Path, Path], build: Build, tmp_path: Path) -> None:
     """The line has the command that shows what broke, and the command works; a later yes removes the libraries."""
     library, debug, _ = parted(build, tmp_path, CHANGED, "new", "libshapes.so.1")

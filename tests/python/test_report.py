@@ -195,6 +195,13 @@ def test_quiet_prints_the_answer_alone(project: Project) -> None:
     assert report("--quiet", old, old).out == f"yes: {old} may replace {old}\n"
 
 
+def test_the_program_says_how_it_is_asked_for_notes() -> None:
+    """`abi-json notes` without the names of libraries."""
+    for words in ((), ("old.so",), ("--rules", "x"), ("old.so", "new.so", "more.so")):
+        ended = run(os.environ["ABI_JSON"], "notes", *words)
+        assert ended.status == 64 and "usage: abi-json notes [--rules FILE] OLD NEW\n" in ended.out + ended.errors, ended
+
+
 def test_statuses_where_it_cannot_be_told(project: Project) -> None:
     old = project.build("old")
     bare = project.build("bare", HEADER, SOURCE, "-g0")
