@@ -4,6 +4,7 @@ from __future__ import annotations
 
 import os
 import re
+import shlex
 from pathlib import Path
 
 import pytest
@@ -131,6 +132,17 @@ def test_files_that_pages_name_are_installed() -> None:
     named = {name for text in pages.values() for name in re.findall(r"\bdocs/[\w./]+\w", text)}
     assert {"docs/manual/LIMITS.md", "docs/gate.schema.json", "docs/report.schema.json"} <= named
     assert all((ROOT / name).is_file() for name in named), named
+
+
+def test_examples_of_tools_have_options_that_the_tools_have() -> None:
+    examples = [line for tool in read_manual().tools.values() for one in tool.get("example", ()) for line in one["line"].splitlines()]
+    assert {line.split()[0] for line in examples} >= {"abi-report", "abi-gate", "abi-packages", "abi-baseline", "join-debug"}
+    for name, *words in map(shlex.split, examples):
+        if name in _MODULES:
+            options = parser_of(_MODULES[name])._option_string_actions
+            assert {word for word in words if word.startswith("-") and word != "--"} <= set(options), (name, words)
+        text = "".join((SHARE / f"man/man1/{tool}.1").read_text() for tool in read_manual().tools).replace("\\-", "-")
+        assert f"{name} {words[0]}" in text
 
 
 def test_pages_of_the_programs_name_each_other_page() -> None:
