@@ -200,7 +200,9 @@ def test_the_program_says_how_it_is_asked_for_notes() -> None:
     """`abi-json notes` without the names of libraries."""
     for words in ((), ("old.so",), ("--rules", "x"), ("old.so", "new.so", "more.so")):
         ended = run(os.environ["ABI_JSON"], "notes", *words)
-        assert ended.status == 64 and "usage: abi-json notes [--rules FILE] OLD NEW\n" in ended.out + ended.errors, ended
+        printed = json.loads(ended.out)
+        jsonschema.validate(printed, SCHEMA)
+        assert (ended.status, printed["answer"], printed["text"]) == (64, "usage", "usage: abi-json notes [--rules FILE] OLD NEW\n"), ended
 
 
 def test_statuses_where_it_cannot_be_told(project: Project) -> None:
