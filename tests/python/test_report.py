@@ -201,7 +201,7 @@ def test_the_program_says_how_it_is_asked_for_notes() -> None:
     for words in ((), ("old.so",), ("--rules", "x"), ("old.so", "new.so", "more.so")):
         ended = run(os.environ["ABI_JSON"], "notes", *words)
         printed = json.loads(ended.out)
-        jsonschema.validate(printed, SCHEMA)
+        jsonschema.validate(printed, json.loads(SCHEMA.read_text()))
         assert (ended.status, printed["answer"], printed["text"]) == (64, "usage", "usage: abi-json notes [--rules FILE] OLD NEW\n"), ended
 
 
