@@ -153,6 +153,9 @@ def test_rpm_packages_with_a_supplementary_file(build: Build, tmp_path: Path) ->
     ended = packages(tmp_path, *made, "--", *made)
     assert ended.status == 0 and "2 libraries: 2 yes" in ended.out, ended
     assert ended.out.count("exports with types: old 2 of 2, new 2 of 2") == 2
+    # a receiver checks both certificates from the same packages
+    ended = tool("abi-packages", "--verify", tmp_path / "certificates", *made, "--", *made)
+    assert ended.status == 0 and ended.out.count("; accepted certificate ") == 2, ended
 
 
 def test_a_soname_may_stand_in_several_folders(build: Build, tmp_path: Path) -> None:
