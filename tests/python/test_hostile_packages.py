@@ -21,7 +21,7 @@ from package_support import (CHANGED, LIBRARIES, Build, Member, deb, hostile_deb
 
 from fuzz_packages import corpus as fuzzed
 
-from abi_tools import archives, jobs
+from abi_tools import archives, jobs, packages_command, unpacking
 from abi_tools.archives import Archive
 from abi_tools.elf_files import ElfFile
 from abi_tools.shown import line_shown
@@ -632,11 +632,20 @@ def test_a_terminal_sees_progress(old: Path, tmp_path: Path) -> None:
     assert "\x1b" not in (tmp_path / "out").read_text()
 
 
-def test_a_package_is_read_once(old: Path, tmp_path: Path) -> None:
+def test_a_package_is_read_once(old: Path, tmp_path: Path, monkeypatch: pytest.MonkeyPatch) -> None:
     """It may stand on both sides, under two names."""
-    again = tmp_path / "again.deb"
+    again, seen = tmp_path / "again.deb", tmp_path / "seen"
     again.hardlink_to(old)
+    unpack = packages_command.unpack
+
+    def counted(file: Path, folder: Path) -> unpacking.Package:
+        with seen.open("a") as stream:
+            stream.write(f"{file.name}\n")
+        return unpack(file, folder)
+
+    monkeypatch.setattr(packages_command, "unpack", counted)
     assert packages(tmp_path, old, "--", again).status == 0
+    assert len(seen.read_text().splitlines()) == 1
 
 
 def test_lines_are_in_order_and_chosen(build: Build, tmp_path: Path) -> None:

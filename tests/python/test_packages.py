@@ -112,6 +112,15 @@ def test_without_debug_packages_it_cannot_be_told(old: tuple[Path, Path], build:
     assert list((tmp_path / "certificates").iterdir()) == []
 
 
+def test_debug_information_of_another_build_is_not_taken(old: tuple[Path, Path], build: Build, tmp_path: Path) -> None:
+    """The debug package of the new library has that of the old one, under the name that the new one asks for."""
+    library, debug, _ = parted(build, tmp_path, FIRST.replace("* s->at->y", "+ s->at->y"), "new", "libshapes.so.1")
+    wrong = {name: tmp_path / "old.debug" for name in debug}
+    ended = packages(tmp_path, *old, "--", deb(tmp_path, "new", library), deb(tmp_path, "new-dbgsym", wrong))
+    assert ended.status == 2 and ended.out.startswith("cannot tell libshapes.so.1: "), ended
+    assert f"{next(iter(debug))} is of another build than {LIBRARIES}/libshapes.so.1.1.2: its build id is " in ended.out
+
+
 def test_an_export_that_is_gone_is_a_no_also_without_debug_packages(old: tuple[Path, Path], build: Build, tmp_path: Path) -> None:
     library, _, _ = parted(build, tmp_path, SECOND, "new", "libshapes.so.1")
     assert packages(tmp_path, *old, "--", deb(tmp_path, "new", library)).status == 1
