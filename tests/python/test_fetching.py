@@ -135,12 +135,14 @@ def test_it_is_told_that_an_archive_lacks_debug_packages(versions: dict[str, Ver
     """As with the usual sources of Debian, where only the debug archive has them. Those of the other side are there."""
     archive(tmp_path, [versions["1:1.10-1"].package, versions["1:1.10-1+deb12u1"].debug])
     known(tmp_path, monkeypatch)
-    ended = packages(tmp_path, "--fetch", versions["1:1.10-1+deb12u1"].package)
+    headers = deb(tmp_path, "libshapes-dev", {"usr/include/shapes.h": tmp_path / "shapes.h"})
+    ended = packages(tmp_path, "--fetch", versions["1:1.10-1+deb12u1"].package, headers)
     assert ended.status == 2 and "there is no debug file of" in ended.out, ended
     assert ended.errors.splitlines() == [
         "abi-packages: old: fetched libshapes1 1:1.10-1 amd64",
         "abi-packages: old: the archive has no debug information of libshapes1 1:1.10-1 amd64: many archives keep -dbgsym packages apart",
-        "abi-packages: new: fetched libshapes1-dbgsym 1:1.10-1+deb12u1 amd64"], ended
+        "abi-packages: new: fetched libshapes1-dbgsym 1:1.10-1+deb12u1 amd64",
+        "abi-packages: the archive has no version of libshapes-dev before 1"], ended
 
 
 def test_a_dbg_package_of_the_same_source_is_fetched(build: Build, tmp_path: Path, monkeypatch: pytest.MonkeyPatch) -> None:

@@ -11,6 +11,9 @@ from abi_tools.deb_control import About, about
 from abi_tools.faults import Fault
 from abi_tools.shown import name_shown
 
+# The end of the names of packages of headers.
+_HEADERS = "-dev"
+
 
 @dataclass(frozen=True)
 class _Package:
@@ -61,9 +64,10 @@ def _notes(name: str, side: Sequence[_Package], given: Sequence[Path]) -> list[s
 
 
 def _lacks_debug(package: _Package, side: Sequence[_Package]) -> bool:
-    """Whether a side has no debug information of a package that may have libraries."""
-    about_it = package.about
-    return not (about_it.is_debug or about_it.architecture == ALL or any(other.about.has_debug_of(about_it) for other in side))
+    """Whether a side has no debug information of a package that may have libraries, unlike those of headers and those for all architectures."""
+    one = package.about
+    has_none = one.is_debug or one.architecture == ALL or one.name.endswith(_HEADERS)
+    return not has_none and not any(other.about.has_debug_of(one) for other in side)
 
 
 def _previous(news: Sequence[_Package], archive: AptArchive) -> list[_Package]:
