@@ -4,6 +4,7 @@ from __future__ import annotations
 
 import contextlib
 import http.server
+import shlex
 import shutil
 import threading
 from functools import partial
@@ -11,7 +12,7 @@ from pathlib import Path
 from typing import Iterator, NamedTuple
 
 import pytest
-from conftest import FIRST, SECOND, Ended, build_id, done, needs, shared, split, tool
+from conftest import FIRST, SECOND, TOOLS, Ended, build_id, done, needs, run, shared, split, tool
 from package_support import CHANGED, LIBRARIES, Build, deb, packages, parted, rpm
 
 SONAME = "libshapes.so.1"
@@ -93,6 +94,17 @@ def test_a_new_package_alone_has_an_answer(versions: dict[str, Version], tmp_pat
     assert list((tmp_path / "new0").iterdir()) == [tmp_path / "new0/libshapes1.deb"]
 
 
+def test_a_terminal_sees_that_something_is_fetched(versions: dict[str, Version], tmp_path: Path, monkeypatch: pytest.MonkeyPatch) -> None:
+    """apt may take half a minute."""
+    archive(tmp_path, [file for version in versions.values() for file in version])
+    known(tmp_path, monkeypatch)
+    new = alone(tmp_path / "new", versions["1:1.10-1+deb12u1"].package)
+    command = shlex.join(map(str, (TOOLS / "abi-packages", "--certificates", tmp_path / "kept", "--fetch", new)))
+    ended = run("script", "--quiet", "--return", "--command", f"TERM=xterm {command} >{tmp_path}/out", tmp_path / "terminal")
+    assert ended.status == 0 and ended.out.index("fetching what is not given") < ended.out.index("old: fetched libshapes1"), ended
+    assert (tmp_path / "out").read_text().startswith(f"yes {SONAME}: "), ended
+
+
 def test_debug_packages_beside_a_new_package_are_taken(versions: dict[str, Version], tmp_path: Path,
                                                        monkeypatch: pytest.MonkeyPatch) -> None:
     """As after a build: the archive has no such version."""
@@ -118,6 +130,21 @@ def test_debug_packages_of_given_packages_are_fetched(versions: dict[str, Versio
     assert ended.status == 0 and len(ended.errors.splitlines()) == 2, ended
 
 
+def test_it_is_told_that_an_archive_lacks_debug_packages(versions: dict[str, Version], tmp_path: Path,
+                                                         monkeypatch: pytest.MonkeyPatch) -> None:
+    """As with the usual sources of Debian, where only the debug archive has them. Those of the other side are there."""
+    archive(tmp_path, [versions["1:1.10-1"].package, versions["1:1.10-1+deb12u1"].debug])
+    known(tmp_path, monkeypatch)
+    headers = deb(tmp_path, "libshapes-dev", {"usr/include/shapes.h": tmp_path / "shapes.h"})
+    ended = packages(tmp_path, "--fetch", versions["1:1.10-1+deb12u1"].package, headers)
+    assert ended.status == 2 and "there is no debug file of" in ended.out, ended
+    assert ended.errors.splitlines() == [
+        "abi-packages: old: fetched libshapes1 1:1.10-1 amd64",
+        "abi-packages: old: the archive has no debug information of libshapes1 1:1.10-1 amd64: many archives keep -dbgsym packages apart",
+        "abi-packages: new: fetched libshapes1-dbgsym 1:1.10-1+deb12u1 amd64",
+        "abi-packages: the archive has no version of libshapes-dev before 1"], ended
+
+
 def test_a_dbg_package_of_the_same_source_is_fetched(build: Build, tmp_path: Path, monkeypatch: pytest.MonkeyPatch) -> None:
     """The one of the same build, where the source has been built again."""
     needs("apt-get", "dpkg-scanpackages")
@@ -136,6 +163,29 @@ def test_a_dbg_package_of_the_same_source_is_fetched(build: Build, tmp_path: Pat
     assert ended.status == 0 and ended.errors.splitlines() == [
         "abi-packages: old: fetched libshapes1 1 amd64", "abi-packages: old: fetched shapes-dbg 1 amd64",
         "abi-packages: new: fetched shapes-dbg 2 amd64"], ended
+
+
+def test_libraries_of_fetched_debug_packages_are_not_judged(build: Build, tmp_path: Path, monkeypatch: pytest.MonkeyPatch) -> None:
+    """As of Debian's Python: the package that is named after that of the library has a build for debugging, in which all changes, and
+    another package of the source has the debug files."""
+    needs("apt-get", "dpkg-scanpackages")
+    files: dict[str, list[Path]] = {}
+    for version, text, debugging in (("1", FIRST, FIRST), ("2", SAME, CHANGED)):
+        library, debug, _ = parted(build, tmp_path, text, f"built{version}", SONAME)
+        other = build(f"debugging{version}.so", debugging, soname="libdebugging.so.1")
+        for name, contents in (("libshapes1", library), ("libshapes1-dbg", {"usr/lib/libdebugging.so.1": other}), ("shapes-dbg", debug)):
+            folder = tmp_path / f"{name}-{version}"
+            folder.mkdir()
+            files.setdefault(version, []).append(deb(folder, name, contents, version=f"{version}\nSource: shapes"))
+    archive(tmp_path, [file for made in files.values() for file in made])
+    known(tmp_path, monkeypatch)
+    old, new = files.values()
+    for given in (new[:1], new[:2], (*old[:2], "--", *new[:1]), (old[0], "--", *new[:2])):
+        ended = packages(tmp_path, "--fetch", *given)
+        assert ended.status == 0 and ended.out.splitlines()[-1] == "1 library: 1 yes", ended
+        assert "exports with types: old 2 of 2, new 2 of 2" in ended.out
+        assert ended.errors.count("fetched shapes-dbg") == 2 and "has no debug information" not in ended.errors, ended
+    assert packages(tmp_path, *old, "--", *new).status == 1
 
 
 def test_a_mirror_stands_for_the_sources_of_apt(versions: dict[str, Version], tmp_path: Path, monkeypatch: pytest.MonkeyPatch) -> None:
@@ -264,7 +314,7 @@ def test_a_server_that_does_not_answer_is_no_lack_of_debug_files(rpms: tuple[lis
         ended = packages(tmp_path, "--debuginfod", server, old, "--", new)
         assert ended.status == 2 and "HTTP Error 503" in ended.out and "there is no debug file" not in ended.out, ended
     ended = packages(tmp_path, "--debuginfod", server, old, "--", new)
-    assert ended.status == 2 and "refused" in ended.out, ended
+    assert ended.status == 2 and "debuginfo: Connection refused" in ended.out, ended
 
 
 def test_a_debug_file_of_any_size_is_no_matter(rpms: tuple[list[Path], Path], tmp_path: Path, monkeypatch: pytest.MonkeyPatch) -> None:

@@ -21,7 +21,7 @@ from package_support import (CHANGED, LIBRARIES, Build, Member, deb, hostile_deb
 
 from fuzz_packages import corpus as fuzzed
 
-from abi_tools import archives, jobs
+from abi_tools import archives, jobs, packages_command, unpacking
 from abi_tools.archives import Archive
 from abi_tools.elf_files import ElfFile
 from abi_tools.shown import line_shown
@@ -399,6 +399,20 @@ def test_a_bomb_is_refused_or_costs_no_memory(old: Path, tmp_path: Path, way: st
             assert status == (2 if start else 1), said
 
 
+def test_a_sparse_file_is_refused_before_its_zeros_are_made(old: Path, tmp_path: Path) -> None:
+    """Twenty kilobytes of an archive that stand for a library of 8 GB, in both forms of GNU tar. dpkg installs neither."""
+    (tmp_path / "usr/lib").mkdir(parents=True)
+    with (tmp_path / "usr/lib" / SONAME).open("wb") as stream:
+        stream.write(b"\x7fELF")
+        stream.truncate(8 << 30)
+    for form, words in (("gnu", "a sparse file"), ("posix", "a header of pax")):
+        done("tar", "--sparse", f"--format={form}", "-cf", tmp_path / "data", "usr", folder=tmp_path)
+        new = packed(tmp_path / f"{form}.deb", ("data.tar", (tmp_path / "data").read_bytes()))
+        assert new.stat().st_size < 32768
+        status, megabytes, said = peak(["--certificates", tmp_path / "kept", old, "--", new])
+        assert status == 2 and words in said and megabytes < 200, (status, megabytes, said)
+
+
 def test_a_file_that_is_too_large_is_named(old: Path, good: bytes, tmp_path: Path) -> None:
     """A library of 300 MB gets `cannot tell` with its size; the other one of its package is judged."""
     large = good + bytes(300 << 20)
@@ -618,11 +632,20 @@ def test_a_terminal_sees_progress(old: Path, tmp_path: Path) -> None:
     assert "\x1b" not in (tmp_path / "out").read_text()
 
 
-def test_a_package_is_read_once(old: Path, tmp_path: Path) -> None:
+def test_a_package_is_read_once(old: Path, tmp_path: Path, monkeypatch: pytest.MonkeyPatch) -> None:
     """It may stand on both sides, under two names."""
-    again = tmp_path / "again.deb"
+    again, seen = tmp_path / "again.deb", tmp_path / "seen"
     again.hardlink_to(old)
+    unpack = packages_command.unpack
+
+    def counted(file: Path, folder: Path) -> unpacking.Package:
+        with seen.open("a") as stream:
+            stream.write(f"{file.name}\n")
+        return unpack(file, folder)
+
+    monkeypatch.setattr(packages_command, "unpack", counted)
     assert packages(tmp_path, old, "--", again).status == 0
+    assert len(seen.read_text().splitlines()) == 1
 
 
 def test_lines_are_in_order_and_chosen(build: Build, tmp_path: Path) -> None:

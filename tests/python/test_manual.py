@@ -4,6 +4,7 @@ from __future__ import annotations
 
 import os
 import re
+import shlex
 from pathlib import Path
 
 import pytest
@@ -104,15 +105,44 @@ def test_the_page_of_abi_says_what_to_do_about_each_rule() -> None:
     assert "allocates too little" in text and "Keep the soname, or ship both libraries." in text
 
 
+# What each tool reads, by itself or by a program or library that it runs.
+_VARIABLES = {
+    "abi-report": {"ABI", "ABI_JSON"}, "abi-gate": {"ABI", "ABI_JSON", "ABI_NOTES"},
+    "abi-packages": {"ABI", "ABI_NOTES", "DEBUGINFOD_URLS", "TMPDIR"}, "abi-release": {"ABI", "ABI_JSON", "TMPDIR"},
+    "abi-history": {"ABI", "TMPDIR"}, "abi-baseline": set(), "join-debug": set()}
+
+
 def test_pages_name_the_variables_that_programs_read() -> None:
     sources = {"abi": ROOT / "crates/abi_cli/src", "abi-json": ROOT / "crates/abi_json/src"}
     for program, folder in sources.items():
         read = {name for path in folder.glob("*.rt") for name in re.findall(r'"(ABI_[A-Z]+)"', path.read_text())}
         page = (SHARE / f"man/man1/{program}.1").read_text()
         assert read and read == set(re.findall(r"\n\\fB(ABI_[A-Z]+)\\fR\n", page[page.index(".SH ENVIRONMENT"):])), program
-    for name, tool in read_manual().tools.items():
+    for name, variables in _VARIABLES.items():
         page = (SHARE / f"man/man1/{name}.1").read_text()
-        assert all(f"\n\\fB{variable}\\fR\n" in page for variable in tool["environment"])
+        assert variables == set(re.findall(r"\n\\fB([A-Z_]+)\\fR\n", page.partition(".SH ENVIRONMENT")[2])), name
+    read = {name for path in TOOLS.glob("abi_[!mp]*/*.py") for name in re.findall(r'environ\.get\("(\w+)"', path.read_text())}
+    assert read <= set().union(*_VARIABLES.values()) and len(read) > 2
+
+
+def test_files_that_pages_name_are_installed() -> None:
+    """Below share/doc/abi, where abi(1) says that they are."""
+    pages = {path.name: path.read_text().replace("\\-", "-") for path in (SHARE / "man/man1").iterdir()}
+    assert "share/doc/abi," in pages["abi.1"].partition(".SH FILES")[2]
+    named = {name for text in pages.values() for name in re.findall(r"\bdocs/[\w./]+\w", text)}
+    assert {"docs/manual/LIMITS.md", "docs/gate.schema.json", "docs/report.schema.json"} <= named
+    assert all((ROOT / name).is_file() for name in named), named
+
+
+def test_examples_of_tools_have_options_that_the_tools_have() -> None:
+    examples = [line for tool in read_manual().tools.values() for one in tool.get("example", ()) for line in one["line"].splitlines()]
+    assert {line.split()[0] for line in examples} >= {"abi-report", "abi-gate", "abi-packages", "abi-baseline", "join-debug"}
+    for name, *words in map(shlex.split, examples):
+        if name in _MODULES:
+            options = parser_of(_MODULES[name])._option_string_actions
+            assert {word for word in words if word.startswith("-") and word != "--"} <= set(options), (name, words)
+        text = "".join((SHARE / f"man/man1/{tool}.1").read_text() for tool in read_manual().tools).replace("\\-", "-")
+        assert f"{name} {words[0]}" in text
 
 
 def test_pages_of_the_programs_name_each_other_page() -> None:

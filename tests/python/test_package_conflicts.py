@@ -14,7 +14,9 @@ from conftest import FIRST, SECOND
 from package_support import CHANGED, Build, Member, hostile_deb, installed, link, packages
 from fuzz_packages import corpus as fuzzed
 
+from abi_tools.faults import Fault
 from abi_tools.loader_views import loader_view
+from abi_tools.package_sides import Side
 
 SONAME = "libshapes.so.1"
 DEBUG = "usr/lib/debug"
@@ -51,6 +53,10 @@ def test_a_link_of_one_package_leads_to_debug_information_of_another(library: di
         assert packages(tmp_path, *sides(tmp_path, both[:1], both[1:])).status == status
         ended = packages(tmp_path, *sides(tmp_path, [first, [Member(place, library["good"])]], [first, [Member(place, contents)]]))
         assert ended.status == 2 and f"leads to {place}" in ended.errors and ended.out == "", ended
+    # so is a package that is only searched for debug information
+    files = [hostile_deb(tmp_path / f"{number}.deb", members) for number, members in enumerate((first, [Member(place, library["bad"])]))]
+    with pytest.raises(Fault, match=f"leads to {place}"):
+        Side.unpacked(files, tmp_path / "unpacked", shipping=1)
 
 
 def test_links_in_the_folder_of_debug_information_are_followed(library: dict[str, bytes], tmp_path: Path) -> None:

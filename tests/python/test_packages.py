@@ -42,6 +42,16 @@ def test_a_no_has_the_report_of_abi(old: tuple[Path, Path], build: Build, tmp_pa
     assert report.read_text() == abi("check", tmp_path / "old.so", whole).out
 
 
+def test_a_report_is_kept_where_it_cannot_be_told(old: tuple[Path, Path], build: Build, tmp_path: Path) -> None:
+    """`abi` says no since the debug package of the new library is missing; its report says what it saw."""
+    library, _, _ = parted(build, tmp_path, FIRST, "new", "libshapes.so.1")
+    ended = packages(tmp_path, *old, "--", deb(tmp_path, "new", library))
+    report = tmp_path / "certificates/libshapes.so.1.report"
+    assert ended.status == 2 and ended.out.startswith("cannot tell libshapes.so.1: the types of 2 exports are gone: "), ended
+    assert f"; report {report}; " in ended.out
+    assert sorted(report.read_text().splitlines()) == ["X6 area: type gone", "X6 call: type gone", "no"]
+
+
 def test_a_no_may_keep_both_libraries(old: tuple[Path, Path], build: Build, tmp_path: Path) -> None:
     """The line has the command that shows what broke, and the command works; a later yes removes the libraries."""
     library, debug, _ = parted(build, tmp_path, CHANGED, "new", "libshapes.so.1")
@@ -102,6 +112,15 @@ def test_without_debug_packages_it_cannot_be_told(old: tuple[Path, Path], build:
     assert list((tmp_path / "certificates").iterdir()) == []
 
 
+def test_debug_information_of_another_build_is_not_taken(old: tuple[Path, Path], build: Build, tmp_path: Path) -> None:
+    """The debug package of the new library has that of the old one, under the name that the new one asks for."""
+    library, debug, _ = parted(build, tmp_path, FIRST.replace("* s->at->y", "+ s->at->y"), "new", "libshapes.so.1")
+    wrong = {name: tmp_path / "old.debug" for name in debug}
+    ended = packages(tmp_path, *old, "--", deb(tmp_path, "new", library), deb(tmp_path, "new-dbgsym", wrong))
+    assert ended.status == 2 and ended.out.startswith("cannot tell libshapes.so.1: "), ended
+    assert f"{next(iter(debug))} is of another build than {LIBRARIES}/libshapes.so.1.1.2: its build id is " in ended.out
+
+
 def test_an_export_that_is_gone_is_a_no_also_without_debug_packages(old: tuple[Path, Path], build: Build, tmp_path: Path) -> None:
     library, _, _ = parted(build, tmp_path, SECOND, "new", "libshapes.so.1")
     assert packages(tmp_path, *old, "--", deb(tmp_path, "new", library)).status == 1
@@ -143,6 +162,9 @@ def test_rpm_packages_with_a_supplementary_file(build: Build, tmp_path: Path) ->
     ended = packages(tmp_path, *made, "--", *made)
     assert ended.status == 0 and "2 libraries: 2 yes" in ended.out, ended
     assert ended.out.count("exports with types: old 2 of 2, new 2 of 2") == 2
+    # a receiver checks both certificates from the same packages
+    ended = tool("abi-packages", "--verify", tmp_path / "certificates", *made, "--", *made)
+    assert ended.status == 0 and ended.out.count("; accepted certificate ") == 2, ended
 
 
 def test_a_soname_may_stand_in_several_folders(build: Build, tmp_path: Path) -> None:
@@ -185,6 +207,14 @@ def test_what_is_no_package_is_refused(old: tuple[Path, Path], tmp_path: Path) -
     nothing = deb(tmp_path, "nothing", {"usr/share/doc/nothing/readme": tmp_path / "shapes.h"})
     ended = packages(tmp_path, nothing, "--", nothing)
     assert ended.status == 2 and "no library is in the old packages" in ended.errors
+
+
+def test_without_abi_no_package_is_read(old: tuple[Path, Path], tmp_path: Path, monkeypatch: pytest.MonkeyPatch) -> None:
+    """One sentence, and not one for each library."""
+    monkeypatch.setenv("ABI", "abi-that-is-nowhere")
+    ended = packages(tmp_path, *old, "--", *old)
+    said = "abi-packages: there is no program abi-that-is-nowhere: put abi on the PATH, or name it by the variable ABI\n"
+    assert (ended.status, ended.out, ended.errors) == (2, "", said), ended
 
 
 def mirror(folder: Path, packages_of_it: Sequence[Path]) -> list[str]:

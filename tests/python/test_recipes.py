@@ -103,18 +103,20 @@ def test_debian_rules(project: Path, tmp_path: Path) -> None:
 
 
 def rpm_build(project: Path, folder: Path, spec: Path = EXAMPLES / "rpm/libstream.spec") -> Ended:
-    """A build of the package by rpmbuild."""
+    """A build of the package by rpmbuild, with options of a distribution."""
     sources = folder / "SOURCES"
     sources.mkdir(parents=True, exist_ok=True)
     for source in (project / "stream.c", project / "Makefile", project / "abi/libstream.so.1.abi"):
         shutil.copy(source, sources)
-    return run("rpmbuild", "-bb", "--define", f"_topdir {folder}", spec)
+    return run("rpmbuild", "-bb", "--define", f"_topdir {folder}", "--define", "optflags -O2 -g -DOF_RPM", spec)
 
 
 def test_rpm_check(project: Path, tmp_path: Path) -> None:
     needs("rpmbuild")
     ended = rpm_build(project, tmp_path / "rpmbuild")
     assert ended.status == 0 and YES in ended.out, ended
+    # the options of the distribution are kept
+    assert " -O2 -g -DOF_RPM -fno-ipa-icf " in ended.out, ended
     made = list((tmp_path / "rpmbuild/RPMS").rglob("libstream-1.0-1*.rpm"))
     assert len(made) == 1
     broken(project)

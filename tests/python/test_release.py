@@ -636,7 +636,7 @@ def test_wrong_arguments_and_folders(tmp_path: Path) -> None:
     for options, words in ((("--rules", "none"), "there is no rule file none"), (("--tries", "0"), "0 is no number from 1"),
                            (("more",), "unrecognized arguments"), (("--memory", "9" * 30), "is no number from 1 to 1000000000"),
                            (("--seconds", "many"), "many is no number from 1"), (("--patience", "nan"), "nan is no number of seconds"),
-                           (("--require-types", "101"), "is no share of 100")):
+                           (("--require-types", "101"), "is no percentage from 0 to 100")):
         ended = release(tmp_path, *options)
         assert ended.status == (2 if "--rules" in options else 64) and words in ended.errors, ended
     rules = tmp_path / "rules"

@@ -3,6 +3,7 @@
 from __future__ import annotations
 
 import json
+import os
 import re
 from pathlib import Path
 from random import Random
@@ -184,6 +185,21 @@ def test_a_number_in_two_functions_has_one_block(project: Project) -> None:
     assert set(types[0]["exports"]) <= {"take", "give"} and types[0]["exports"]
 
 
+def test_a_function_has_its_own_name_where_another_one_has_its_type(project: Project) -> None:
+    """The document has the entry of one of several functions with one type, whatever their order is."""
+    plain = "int {0}(const char *text) {{ return text[1]; }}\n"
+    source = f"{plain.format('first')}int said(const char *words%s) {{ return *words; }}\n{plain.format('last')}"
+    old, new = (project.build(name, "", source % more) for name, more in (("old", ", ..."), ("new", "")))
+    title = "int said(const char *words, ...) -> int said(const char *words)"
+    assert f"\n{title}  defined at src/stream.c:2\n" in report(old, new).out
+    whole = document(old, new)
+    assert [one["title"] for one in whole["report"]["types"]] == [title]
+    assert [(one["old_type"]["name"], one["new_type"]["name"]) for one in whole["breaks"]] == [tuple(title.split(" -> "))]
+    level1 = project.build("level1", "", source % "", "-g1")
+    titles = [one["title"] for one in document(old, level1)["report"]["types"]]
+    assert titles[:2] == ["int said(const char *words, ...) -> void said()", "int last(const char *text) -> void last()"], titles
+
+
 def test_the_program_does_the_same(project: Project) -> None:
     old = project.build("old")
     assert script(old, old) == report(old, old)
@@ -193,6 +209,15 @@ def test_quiet_prints_the_answer_alone(project: Project) -> None:
     old, new = changed(project)
     assert report("--quiet", old, new).out == f"no: {new} may not replace {old}\n"
     assert report("--quiet", old, old).out == f"yes: {old} may replace {old}\n"
+
+
+def test_the_program_says_how_it_is_asked_for_notes() -> None:
+    """`abi-json notes` without the names of libraries."""
+    for words in ((), ("old.so",), ("--rules", "x"), ("old.so", "new.so", "more.so")):
+        ended = run(os.environ["ABI_JSON"], "notes", *words)
+        printed = json.loads(ended.out)
+        jsonschema.validate(printed, json.loads(SCHEMA.read_text()))
+        assert (ended.status, printed["answer"], printed["text"]) == (64, "usage", "usage: abi-json notes [--rules FILE] OLD NEW\n"), ended
 
 
 def test_statuses_where_it_cannot_be_told(project: Project) -> None:

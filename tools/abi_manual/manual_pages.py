@@ -35,8 +35,9 @@ def abi_page(manual: Manual) -> str:
         *_statuses(manual), ".PP", "With each status from 2 on, a sentence on standard error says what is wrong.",
         ".SH RULES", *sentences(_RULES), *_rules(),
         *environment(manual, _READ_BY_ABI),
+        ".SH FILES", *paragraphs(source["files"]),
         ".SH LIMITS", *paragraphs(source["limits"]),
-        *_examples(source["example"]),
+        *examples(source["example"]),
         *see_also(["abi-json", *manual.tools, *_ELSEWHERE, "abidiff", "readelf", "pahole"]),
     ]
     return "\n".join(lines) + "\n"
@@ -53,7 +54,7 @@ def json_page(manual: Manual) -> str:
         ".SH OPTIONS", *_options(manual, _CHOSEN_BY_JSON),
         *_statuses(manual), ".PP", "With status 4 and no document, a sentence on standard error says what is wrong.",
         *environment(manual, _READ_BY_JSON),
-        *_examples(source["json_example"]),
+        *examples(source["json_example"]),
         *see_also(["abi", *manual.tools, *_ELSEWHERE, "jq"]),
     ]
     return "\n".join(lines) + "\n"
@@ -171,10 +172,9 @@ def see_also(names: Iterable[str]) -> list[str]:
     return [".SH SEE ALSO", *(f"{name}," for name in others[::-1]), first]
 
 
-def _examples(examples: Iterable[dict[str, str]]) -> Iterator[str]:
-    yield ".SH EXAMPLES"
-    for number, example in enumerate(examples):
-        if number:
-            yield ".PP"
+def examples(given: Iterable[dict[str, str]]) -> Iterator[str]:
+    """The section on examples, each a sentence and a command; empty if there are none."""
+    for number, example in enumerate(given):
+        yield ".PP" if number else ".SH EXAMPLES"
         yield from sentences(example["text"])
         yield from (".PP", ".nf", ".RS 4", _guarded(plain(example["line"])), ".RE", ".fi")

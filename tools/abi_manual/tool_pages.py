@@ -8,7 +8,7 @@ import subprocess
 from pathlib import Path
 from typing import Iterable, Iterator
 
-from abi_manual.manual_pages import environment, head, paragraphs, plain, see_also, sentences, words
+from abi_manual.manual_pages import environment, examples, head, paragraphs, plain, see_also, sentences, words
 from abi_manual.sources import Manual
 
 _TOOLS = Path(__file__).resolve().parents[1]
@@ -33,6 +33,7 @@ def tool_page(manual: Manual, name: str) -> str:
         ".SH OPTIONS", *_entries(parts[_OPTIONS]),
         ".SH EXIT STATUS", *_entries(parts[_STATUSES]),
         *environment(manual, tool["environment"]),
+        *examples(tool.get("example", ())),
         *see_also(tool["see"]),
     ]
     return "\n".join(lines) + "\n"

@@ -29,6 +29,12 @@ class Names:
         """A function as a header declares it."""
         return self._declared(function.offset, function.name or "", _DEEPEST)
 
+    def signature(self, function: Entry) -> str:
+        """The type of a function, without names of its own: that of its result, and those of its parameters."""
+        kinds = [self.of(one.kind) if one.tag == "formal_parameter" else "..." for one in self._entries.children(function)
+                 if one.tag in ("formal_parameter", "unspecified_parameters")]
+        return f"{self.of(function.kind)}({', '.join(kinds)})"
+
     def _declared(self, offset: Optional[int], inner: str, depth: int) -> str:
         if offset is None:
             return _joined("void", inner)

@@ -347,11 +347,13 @@ class Report:
 
     def _typed(self, one: Break, found: Json) -> Json:
         """A break of the document with both types."""
-        return {**found, "old_type": self._type(self.old, one.old_entry), "new_type": self._type(self.new, one.new_entry)}
+        return {**found, "old_type": self._type(self.old, one, one.old_entry), "new_type": self._type(self.new, one, one.new_entry)}
 
-    def _type(self, side: Side, offset: Optional[int]) -> Optional[Json]:
-        """The type of an entry: its name as C writes it, and its place."""
-        return None if offset is None else _described(side.described(offset))
+    def _type(self, side: Side, one: Break, offset: Optional[int]) -> Optional[Json]:
+        """The type of an entry of a break: its name as C writes it, and its place."""
+        if offset is None:
+            return None
+        return _described(side.described(offset) if one.steps else side.function(one.export, offset))
 
     def _block(self, block: Block, numbers: dict[int, int]) -> Json:
         return {

@@ -128,6 +128,16 @@ class Side:
             self._described[offset] = self._described_at(offset)
         return self._described[offset]
 
+    def function(self, label: str, offset: Optional[int]) -> Described:
+        """The function of an export. If several functions have one type, the document has the entry of one of them, whatever its name."""
+        given, name = self.described(offset), label.split("@")[0]
+        if given.entry is None or given.entry.tag not in _FUNCTIONS or given.entry.name == name or self.names is None:
+            return given
+        own = self.export(label)
+        if own is not None and own.tag == "subprogram" and self.names.signature(own) == self.names.signature(given.entry):
+            return Described(own, own.offset, self.names.prototype(own), self.place(own, own.offset))
+        return Described(given.entry, offset, self.names.of(given.offset, name), None)
+
     def _described_at(self, offset: Optional[int]) -> Described:
         entry = self.entry(offset)
         if entry is not None and self.records is not None and entry.tag not in _FUNCTIONS:
@@ -198,7 +208,8 @@ class Subjects:
         """The types themselves."""
         old, new = self.old.described(one.old_entry), self.new.described(one.new_entry)
         if not one.steps and (old.entry is None or old.entry.tag in _FUNCTIONS):
-            return Subject("function", old, new, ("function", one.export))
+            sides = self.old.function(one.export, one.old_entry), self.new.function(one.export, one.new_entry)
+            return Subject("function", *sides, ("function", one.export))
         if one.rule not in _OF_HOLDERS and self._is_tagged(one):
             return Subject("record", old, new, _record_key(old, new))
         return Subject("type", old, new, ("type", one.old_entry, one.new_entry, None if one.old_entry else one.export))

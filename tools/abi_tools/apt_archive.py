@@ -11,7 +11,8 @@ from typing import Sequence
 from abi_tools.deb_control import DEBUG, About, about, about_fields
 from abi_tools.faults import Fault, said_of_signal
 
-_ALL = "all"
+# The architecture of packages that are for all of them.
+ALL = "all"
 _PRIVATE = """\
 Dir::State "{folder}/state";
 Dir::State::status "{folder}/status";
@@ -57,14 +58,12 @@ class AptArchive:
         return earlier[:1]
 
     def debug_packages(self, package: About) -> list[About]:
-        """The packages with the debug information of a package: the one that is made beside it, the one that is named after it, or all
-        `-dbg` packages of its source."""
-        self.versions(package.name, package.architecture)
-        for suffix in DEBUG:
-            found = [one for one in self.versions(f"{package.name}{suffix}", package.architecture) if one.version == package.version]
-            if found:
-                return found
-        listed = self._run("apt-cache", "search", "--names-only", "--", "-dbg$")
+        """The packages with the debug information of a package: the one that is made beside it, or all `-dbg` packages of its source, since
+        the one that is named after it may have other things (`libpython3.11-dbg` has another build of Python)."""
+        beside = [one for one in self.versions(f"{package.name}{DEBUG[0]}", package.architecture) if one.version == package.version]
+        if beside:
+            return beside
+        listed = self._run("apt-cache", "search", "--names-only", "--", f"{DEBUG[1]}$")
         names = [line.split(" ")[0] for line in listed.splitlines()]
         return [one for one in _latest_first(self._shown(names), names)
                 if one.has_debug_of(package) and one.architecture == package.architecture]
@@ -105,7 +104,7 @@ class AptArchive:
 
 def _named(name: str, architecture: str) -> str:
     """A package as apt names it."""
-    return name if architecture == _ALL else f"{name}:{architecture}"
+    return name if architecture == ALL else f"{name}:{architecture}"
 
 
 def _private(folder: Path, mirrors: Sequence[str]) -> Path:

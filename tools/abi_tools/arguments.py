@@ -3,6 +3,7 @@
 from __future__ import annotations
 
 import argparse
+import contextlib
 from typing import Any, NoReturn
 
 from abi_tools import VERSION
@@ -30,11 +31,12 @@ class Arguments(argparse.ArgumentParser):
 
 
 def share(text: str) -> float:
-    """A percentage, from 0 to 100. Raises ValueError for any other text."""
-    value = float(text.removesuffix("%"))
-    if not 0 <= value <= 100:
-        raise argparse.ArgumentTypeError(f"{text} is no share of 100")
-    return value
+    """A percentage, from 0 to 100. Raises an argument error for any other text."""
+    with contextlib.suppress(ValueError):
+        value = float(text.removesuffix("%"))
+        if 0 <= value <= 100:
+            return value
+    raise argparse.ArgumentTypeError(f"{text} is no percentage from 0 to 100")
 
 
 def add_require_types(parser: argparse.ArgumentParser) -> None:
@@ -54,17 +56,17 @@ def add_strict(parser: argparse.ArgumentParser) -> None:
 
 
 def number_above_0(text: str) -> int:
-    """A number above 0. Raises an argument error for any other."""
-    value = int(text)
+    """A number above 0, in decimal. Raises an argument error for any other text."""
+    value = int(text) if text.isascii() and text.isdigit() else 0
     if value < 1:
-        raise argparse.ArgumentTypeError(f"{text} is not above 0")
+        raise argparse.ArgumentTypeError(f"{text} is no number above 0")
     return value
 
 
 def address(text: str) -> str:
     """An address of a server. Raises an argument error for any other text."""
     if not text.startswith(("http://", "https://")):
-        raise argparse.ArgumentTypeError(f"{text} is no address of a server")
+        raise argparse.ArgumentTypeError(f"{text} is no address of a server: it must begin with http:// or https://")
     return text
 
 

@@ -36,11 +36,15 @@ class About:
         """Whether it has debug information alone."""
         return self.name.endswith(DEBUG)
 
+    def is_made_beside(self, package: "About") -> bool:
+        """Whether it has all debug files of another package: debhelper made it with that."""
+        return self.name == f"{package.name}{DEBUG[0]}" and self.version == package.version
+
     def has_debug_of(self, package: "About") -> bool:
         """Whether it may have the debug files of another package."""
-        is_named = self.name == f"{package.name}{DEBUG[0]}" or self.name.endswith(DEBUG[1]) and self.source == package.source
+        is_of_source = self.name.endswith(DEBUG[1]) and self.source == package.source
         # A source may have been built several times: `1.2-1` and `1.2-1+b1`.
-        return is_named and self.version == package.version
+        return self.is_made_beside(package) or is_of_source and self.version == package.version
 
     def __str__(self) -> str:
         return f"{self.name} {self.version} {self.architecture}"

@@ -10,7 +10,7 @@ from typing import Iterator, Optional, Sequence
 from abi_tools import VERSION
 from abi_tools.debug_files import DEBUG_FOLDER
 from abi_tools.elf_files import ElfFile
-from abi_tools.faults import Fault
+from abi_tools.faults import Fault, said_of
 from abi_tools.limits import LARGEST_FILE
 from abi_tools.output_file import write_whole
 from abi_tools.package_debug import PackagePlaces
@@ -57,6 +57,9 @@ def _got(address: str) -> Optional[bytes]:
         if error.code == _NOT_FOUND:
             return None
         raise Fault(f"{name_shown(address)}: {error}") from error
+    except urllib.error.URLError as error:
+        why = said_of(error.reason) if isinstance(error.reason, OSError) else error.reason
+        raise Fault(f"{name_shown(address)}: {why}") from error
     except (OSError, http.client.HTTPException) as error:
         raise Fault(f"{name_shown(address)}: {error}") from error
     if len(contents) > LARGEST_FILE:

@@ -5,7 +5,7 @@ from __future__ import annotations
 from typing import Iterator, Sequence
 
 from abi_tools.faults import Fault
-from abi_tools.found_libraries import DEBUG, Contents, DebugLinks, folders_above
+from abi_tools.found_libraries import DEBUG, DebugLinks, folders_above
 from abi_tools.library_names import MERGED, installed, merged_name
 from abi_tools.package_trees import Entry, File, Link, Node
 from abi_tools.shown import name_shown
@@ -15,11 +15,12 @@ from abi_tools.unpacking import Package
 _SHARED = "usr/share/"
 
 
-def refuse_conflicts(packages: Sequence[Package], contents: Sequence[Contents]) -> None:
-    """Raises a fault if what programs find depends on the order in which packages are installed."""
+def refuse_conflicts(packages: Sequence[Package]) -> None:
+    """Raises a fault if what programs find depends on the order in which packages are installed, or on what seems to be debug information of
+    another package."""
     _refuse_second(packages)
     _refuse_folders(packages)
-    _refuse_debug_links(packages, contents)
+    _refuse_debug_links(packages)
 
 
 def _refuse_second(packages: Sequence[Package]) -> None:
@@ -61,15 +62,15 @@ def _matters(name: str, node: Node) -> bool:
     return isinstance(node, File) and node.is_elf or isinstance(node, Link) and not name.startswith(_SHARED)
 
 
-def _refuse_debug_links(packages: Sequence[Package], contents: Sequence[Contents]) -> None:
-    """Raises a fault if a link of one package leads to what seems to be debug information of another one."""
+def _refuse_debug_links(packages: Sequence[Package]) -> None:
+    """Raises a fault if a link of one package leads to what seems to be debug information of another one, whether that ships libraries or
+    is only searched for debug files."""
     links = DebugLinks(installed([package.tree for package in packages])) if len(packages) > 1 else None
-    if not links:
-        return
-    for package, _ in zip(packages, contents):
-        own = DebugLinks(package.tree)
-        for name in _debug_files(package):
-            if links.lead_to(name) and not own.lead_to(name):
+    for package in packages if links else ():
+        reached = [name for name in _debug_files(package) if links is not None and links.lead_to(name)]
+        own = DebugLinks(package.tree) if reached else None
+        for name in reached:
+            if own is not None and not own.lead_to(name):
                 raise Fault(f"a link of another package leads to {name_shown(name)} of {package.file}, where debug information lies")
 
 

@@ -32,7 +32,7 @@ class Side:
     @classmethod
     def of(cls, packages: Sequence[Package], contents: Sequence[Contents]) -> "Side":
         """A side. Raises a fault if the packages cannot be installed together, or not in one way only."""
-        refuse_conflicts(packages, contents)
+        refuse_conflicts(packages)
         return cls(tuple(packages), tuple(contents))
 
     @classmethod

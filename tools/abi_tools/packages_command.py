@@ -9,8 +9,9 @@ from collections import Counter
 from dataclasses import replace
 from functools import partial
 from pathlib import Path
-from typing import Callable, Iterator, Optional, Sequence
+from typing import Callable, Iterator, NamedTuple, Optional, Sequence
 
+from abi_tools.abi_program import Abi
 from abi_tools.arguments import Arguments, ShowLimits, add_require_types, add_strict, address, number_above_0
 from abi_tools.counting import counted
 from abi_tools.debuginfod import Debuginfod
@@ -55,9 +56,9 @@ def main(arguments: Sequence[str]) -> int:
     if new is None and given.fetch:
         given.old, new = [], [str(file) for file in given.old]
     if not new:
-        parser.error("the new packages are missing: they come after --")
+        parser.error("the new packages are missing: they come after --; or --fetch gets the old ones")
     if given.mirror and not given.fetch:
-        parser.error("--mirror says where --fetch looks")
+        parser.error("--mirror says where --fetch looks: give --fetch, too")
     if any(name.startswith("-") for name in new):
         parser.error("options come before the --")
     if given.verify is not None and given.keep is not None:
@@ -120,19 +121,31 @@ def _parted(arguments: Sequence[str]) -> tuple[list[str], Optional[list[str]]]:
     return list(arguments[:at]), list(arguments[at + 1:])
 
 
+class _Files(NamedTuple):
+    """The packages of both sides, and how many of each may ship libraries (all, if that is None): those behind them are searched for debug
+    information alone."""
+
+    old: Sequence[Path]
+    new: Sequence[Path]
+    shipping: tuple[Optional[int], Optional[int]]
+
+
 def _judge(given: argparse.Namespace, new: Sequence[Path]) -> Verdict:
     if given.rules is not None and not given.rules.is_file():
         raise Fault(f"there is no rule file {given.rules}")
+    # Without the program no package need be read.
+    Abi()
     if given.verify is None:
         given.certificates.mkdir(parents=True, exist_ok=True)
     elif not given.verify.is_dir():
         raise Fault(f"there is no folder {given.verify}")
     limits = StepLimits(given.memory or default_megabytes(given.workers), given.seconds)
     with temporary_folder("abi-packages-") as work:
-        old, new = (given.old, new) if not given.fetch else _fetched(given, new, work / "fetched", limits)
-        read = _read_all(old, new, work, limits, given.workers)
+        files = _Files(given.old, new, (None, None)) if not given.fetch else _fetched(given, new, work / "fetched", limits)
+        read = _read_all(files.old, files.new, work, limits, given.workers)
         with limited_time(given.seconds, "pairing the libraries"):
-            sides = _served((_side(read[0]), _side(read[1])), given, work / "served")
+            first, second = map(_side, read, files.shipping)
+            sides = _served((first, second), given, work / "served")
             found = pairs(*sides)
         _refuse_unknown(given.leave_out, found)
         judging = Judging(work / "libraries", sides, given.verify or given.certificates, given.keep,
@@ -145,18 +158,19 @@ def _judge(given: argparse.Namespace, new: Sequence[Path]) -> Verdict:
     return worst(lines)
 
 
-def _fetched(given: argparse.Namespace, new: Sequence[Path], folder: Path, limits: StepLimits) -> tuple[list[Path], list[Path]]:
+def _fetched(given: argparse.Namespace, new: Sequence[Path], folder: Path, limits: StepLimits) -> _Files:
     """Both sides, with what was not given. Raises a fault if it cannot be had."""
     # Imported here, since only --fetch needs the library for Debian's control files.
     from abi_tools.fetching import Completed, completed
 
     folder.mkdir()
-    _, found = next(Steps[Completed](limits, 1).run([partial(completed, given.old, new, folder, given.mirror)]))
+    with Progress(1, "fetching what is not given", 1):
+        _, found = next(Steps[Completed](limits, 1).run([partial(completed, given.old, new, folder, given.mirror)]))
     if isinstance(found, Failure):
         raise Fault(found.reason)
     for note in found.notes:
         print(line_shown(f"abi-packages: {note}"), file=sys.stderr)
-    return found.old, found.new
+    return _Files(found.old, found.new, found.shipping)
 
 
 def _served(sides: tuple[Side, Side], given: argparse.Namespace, folder: Path) -> tuple[Side, Side]:
@@ -183,8 +197,8 @@ def _read_all(old: Sequence[Path], new: Sequence[Path], work: Path, limits: Step
     return [read[key] for key in keys[:len(old)]], [read[key] for key in keys[len(old):]]
 
 
-def _side(read: Sequence[_Read]) -> Side:
-    return Side.of([package for package, _ in read], [contents for _, contents in read])
+def _side(read: Sequence[_Read], shipping: Optional[int]) -> Side:
+    return Side.of([package for package, _ in read], [contents for _, contents in read[:shipping]])
 
 
 def _identity(file: Path) -> tuple[object, ...]:

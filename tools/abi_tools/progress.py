@@ -8,10 +8,11 @@ from typing import Any, Optional
 
 
 class Progress:
-    """Shows on standard error how many of some things are done, if that is a terminal and the library for it is installed."""
+    """Shows on standard error how many of some things are done, if that is a terminal and the library for it is installed, and if there
+    are at least `least` of them."""
 
-    def __init__(self, count: int, what: str) -> None:
-        self._bar = _bar() if count > 1 and sys.stderr.isatty() else None
+    def __init__(self, count: int, what: str, least: int = 2) -> None:
+        self._bar = _bar() if count >= least and sys.stderr.isatty() else None
         self._task = None if self._bar is None else self._bar.add_task(what, total=count)
 
     def __enter__(self) -> "Progress":

@@ -75,6 +75,8 @@ def _inflated(packed: bytes, name: str) -> bytes:
 def unpack(file: Path, folder: Path) -> Package:
     """Reads a package, and keeps its ELF files and rule files in `folder`, which must be new. Raises a fault if it is damaged, too large
     or no package."""
+    if file.is_dir():
+        raise Fault(f"{file} is a folder: name the packages in it")
     if not file.is_file():
         raise Fault(f"there is no package {file}")
     with file.open("rb") as stream:
