@@ -293,6 +293,25 @@ def test_the_relation_may_be_for_some_architectures(package: Path, relation: str
     assert ("dh_abi" in planned) == is_run and "dh_strip" in planned
 
 
+def test_a_source_of_quilt_takes_the_baselines(package: Path) -> None:
+    """dpkg-source takes only those binary files that are named; other lines of the list stay."""
+    done("tar", "-cJf", package.parent / "stream_1.0.orig.tar.xz", "--exclude=debian", "-C", package.parent, package.name)
+    write(package, {"debian/source/format": "3.0 (quilt)\n", "debian/changelog": CHANGELOG.replace("(1.0)", "(1.0-1)"),
+                    "debian/source/include-binaries": "debian/logo.png\ndebian/abi/libgone.so.1.abi\n"})
+    names = package / "debian/source/include-binaries"
+    before = names.read_text()
+    installed(package)
+    done("dh_abi", "--update", "--no-act", folder=package)
+    assert names.read_text() == before
+    done("dh_abi", "--update", folder=package)
+    assert names.read_text() == f"debian/logo.png\n{BASELINE}\n"
+    done("dh_clean", folder=package)
+    done("dpkg-source", "-b", package, folder=package.parent)
+    names.unlink()
+    ended = run("dpkg-source", "-b", package, folder=package.parent)
+    assert ended.status != 0 and f"unwanted binary file: {BASELINE}" in ended.errors, ended
+
+
 def test_an_override_replaces_the_call(released: Path) -> None:
     write(released, {"stream.c": BREAK, "debian/rules": RULES + "override_dh_abi:\n\techo my own gate\n"})
     ended = run("debian/rules", "binary", folder=released)
