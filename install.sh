@@ -41,7 +41,8 @@ fail() {
 }
 
 command -v rt >/dev/null || fail "the command rt of the Rattle toolchain is missing: put the folder bin of a Rattle kit on PATH"
-[ -z "$static" ] || command -v gcc >/dev/null || fail "there is no gcc, which --static needs"
+command -v python3 >/dev/null || fail "there is no python3, which rt needs: install the package python3"
+[ -z "$static" ] || command -v gcc >/dev/null || fail "there is no gcc, which --static needs: install the packages gcc and libc6-dev"
 
 work=$(mktemp -d)
 trap 'rm -rf "$work"' EXIT
