@@ -41,7 +41,8 @@ fail() {
 }
 
 command -v rt >/dev/null || fail "the command rt of the Rattle toolchain is missing: put the folder bin of a Rattle kit on PATH"
-[ -z "$static" ] || command -v gcc >/dev/null || fail "there is no gcc, which --static needs"
+command -v python3 >/dev/null || fail "there is no python3, which rt needs: install the package python3"
+[ -z "$static" ] || command -v gcc >/dev/null || fail "there is no gcc, which --static needs: install the packages gcc and libc6-dev"
 
 work=$(mktemp -d)
 trap 'rm -rf "$work"' EXIT
@@ -61,6 +62,12 @@ needed() {
             count = split(programs, program, " ")
             for (i = 1; i <= count; i++) visit(substr(program[i], index(program[i], ":") + 1))
         }' "$crates"
+}
+
+# proved_here CRATE: has rt prove the crate of a program in this run, also if it kept it from an earlier one, since rt leaves the object file
+# of a program only then. It proves again what has one more file in its folder; no check reads this one.
+proved_here() {
+    printf '%s %s\n' "$$" "$(date +%s%N)" >"$work/crates/$1/src/linked-statically"
 }
 
 # linked_statically CRATE: links the object file of a program, which rt leaves beside it, with the kit's C code and the C library's archive.
@@ -90,6 +97,9 @@ while IFS=: read -r crate _; do
     mkdir -p "$work/crates/$crate"
     (cd "$root/crates/$crate" && find . -mindepth 1 -maxdepth 1 ! -name out ! -name must-fail -exec cp -r '{}' "$work/crates/$crate" \;)
 done <"$work/crates.txt"
+for program in $programs; do
+    [ -z "$static" ] || proved_here "${program#*:}"
+done
 
 log=$(mktemp)
 echo "proving $(wc -l <"$work/crates.txt") crates; this takes half an hour or more, unless the kit has kept their proofs"

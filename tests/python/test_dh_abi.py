@@ -2,7 +2,9 @@
 
 from __future__ import annotations
 
+import json
 import os
+import re
 from pathlib import Path
 
 import pytest
@@ -236,18 +238,37 @@ def test_an_error_is_no_answer(released: Path, tmp_path: Path, monkeypatch: pyte
     assert ended.status != 0 and "there is no program" in ended.out + ended.errors, ended
 
 
-def test_versions_of_symbols_to_raise_are_named(released: Path) -> None:
-    """`struct stream` has a hole of four bytes at its end, which gets a member."""
-    write(released, {"stream.c": SOURCE.replace("unsigned left;", "long left;")})
+def test_versions_of_symbols_to_raise_are_named(released: Path, monkeypatch: pytest.MonkeyPatch) -> None:
+    """`struct stream` has a hole of four bytes at its end, which gets a member. All exports that lead to it are named, and those that lead
+    to what the rule file leaves out are not."""
+    more = "".join(f"int stream_{word}(struct stream *stream) {{ return stream->status; }}\n" for word in ("a", "b", "c", "d", "e"))
+    hidden = "struct hidden { int *a; short b; };\nint stream_hidden(struct hidden *hidden) { return hidden->b; }\n"
+    text = SOURCE.replace("unsigned left;", "long left;") + hidden
+    write(released, {"stream.c": text, "debian/abi.rules": "[suppress_type]\nname = hidden\n"})
     installed(released)
     done("dh_abi", "--update", folder=released)
-    write(released, {"stream.c": SOURCE.replace("unsigned left; int status;", "long left; int status; int added;")})
+    grown = text.replace("int status;", "int status; int added;").replace("short b;", "short b; short c;")
+    write(released, {"stream.c": grown})
     installed(released)
     assert "added" not in judged(released).errors
     write(released, {"debian/libstream1.symbols": "libstream.so.1 libstream1 #MINVER#\n stream_left@Base 1.0\n"})
     ended = judged(released)
-    words = "raise the versions of the exports that lead to a new member: stream_left param 1 / target: member added at bit 160"
-    assert ended.status == 0 and f"debian/libstream1.symbols: {words}" in ended.errors, ended
+    words = "debian/libstream1.symbols: raise the versions of the exports that lead to new members of struct stream (added): "
+    assert ended.status == 0 and f"{words}stream_left\n" in ended.errors and ended.errors.count("raise") == 1, ended
+    write(released, {"stream.c": text + more})
+    installed(released)
+    done("dh_abi", "--update", folder=released)
+    write(released, {"stream.c": grown + more})
+    installed(released)
+    ended = judged(released)
+    assert re.search(rf"{re.escape(words)}(stream_[a-z]+, ){{4}}stream_[a-z]+ and 1 more in {KEPT}/libstream.so.1.json\n", ended.errors), ended
+    (library,) = json.loads((released / KEPT / "libstream.so.1.json").read_text())["libraries"]
+    (found,) = library["grown"]
+    assert (found["type"], found["parts"], found["added"]) == ("struct stream", "members", ["added"])
+    assert sorted(found["exports"]) == [*(f"stream_{word}" for word in ("a", "b", "c", "d", "e")), "stream_left"]
+    monkeypatch.setenv("ABI_JSON", "none")
+    ended = judged(released)
+    assert ended.status == 0 and "it cannot be told which members and enumerators are new" in ended.errors and "raise" not in ended.errors, ended
 
 
 def test_a_strict_build_passes_no_member_in_padding(released: Path) -> None:
@@ -291,6 +312,25 @@ def test_the_relation_may_be_for_some_architectures(package: Path, relation: str
     write(package, {"debian/control": CONTROL.replace("dh-sequence-abi", f"dh-sequence-abi{relation}")})
     planned = done("dh", "binary", "--no-act", folder=package).split()
     assert ("dh_abi" in planned) == is_run and "dh_strip" in planned
+
+
+def test_a_source_of_quilt_takes_the_baselines(package: Path) -> None:
+    """dpkg-source takes only those binary files that are named; other lines of the list stay."""
+    done("tar", "-cJf", package.parent / "stream_1.0.orig.tar.xz", "--exclude=debian", "-C", package.parent, package.name)
+    write(package, {"debian/source/format": "3.0 (quilt)\n", "debian/changelog": CHANGELOG.replace("(1.0)", "(1.0-1)"),
+                    "debian/source/include-binaries": "debian/logo.png\ndebian/abi/libgone.so.1.abi\n"})
+    names = package / "debian/source/include-binaries"
+    before = names.read_text()
+    installed(package)
+    done("dh_abi", "--update", "--no-act", folder=package)
+    assert names.read_text() == before
+    done("dh_abi", "--update", folder=package)
+    assert names.read_text() == f"debian/logo.png\n{BASELINE}\n"
+    done("dh_clean", folder=package)
+    done("dpkg-source", "-b", package, folder=package.parent)
+    names.unlink()
+    ended = run("dpkg-source", "-b", package, folder=package.parent)
+    assert ended.status != 0 and f"unwanted binary file: {BASELINE}" in ended.errors, ended
 
 
 def test_an_override_replaces_the_call(released: Path) -> None:

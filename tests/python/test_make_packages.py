@@ -50,12 +50,24 @@ def installation(prefix: Path, *options: str) -> Path:
     return prefix
 
 
+def crate(kit: Path, name: str, licence: str, *lines: str) -> None:
+    """A crate of a kit with these lines of source, and with a licence unless its name is empty."""
+    source = kit / "rattle" / name / "src/lib.rt"
+    source.parent.mkdir(parents=True, exist_ok=True)
+    source.write_text("".join(f"{line}\n" for line in lines))
+    if licence:
+        (kit / "rattle" / name / licence).write_text(f"the licence of {name}\n")
+
+
 def make(prefix: Path, output: Path, *options: object) -> Ended:
-    """Runs make-packages, with a kit of the prover on the PATH, whose crates all have a licence."""
+    """Runs make-packages, with a kit of the prover on the PATH. Its crates that crates.txt names have licences; one of them uses a crate
+    with another licence, which uses one without."""
     kit = prefix.parent / "kit"
-    for crate in KIT_CRATES:
-        (kit / "rattle" / crate).mkdir(parents=True, exist_ok=True)
-        (kit / "rattle" / crate / "LICENSE-MIT").write_text(f"the licence of {crate}\n")
+    for name in KIT_CRATES:
+        crate(kit, name, "LICENSE-MIT", *({"regex": ("// use csv::Reader;", "    pub use ucd_perl::{is_word};", "use input::Input;")}.get(name, ())))
+    crate(kit, "ucd_perl", "LICENSE-UNICODE", "use std::alloc::AllocError;", "use regex::Regex;")
+    crate(kit, "std", "")
+    crate(kit, "csv", "LICENSE")
     (kit / "bin").mkdir(exist_ok=True)
     (kit / "WHAT").write_text("archive a1\ncommit c2\ncompiler d3\n")
     (kit / "bin/rt").write_text(f"#!/bin/sh\ncase $1 in\ndoc) echo '{kit}/START.md' ;;\nversion) echo kit 7 ;;\nesac\n")
@@ -118,7 +130,11 @@ def test_packages_hold_what_is_installed(made: Path, tmp_path: Path) -> None:
         licences = top / "share/doc/abi/licences"
         assert (licences / "library.txt").read_text() == "as you like\n"
         assert {path.name for path in licences.iterdir()} == {
-            "library.txt", "libc.a.copyright", "libgcc.a.copyright", *(f"{crate}.LICENSE-MIT" for crate in KIT_CRATES)}
+            "library.txt", "libc.a.copyright", "libgcc.a.copyright", "crates", "ucd_perl.LICENSE-UNICODE",
+            *(f"{name}.LICENSE-MIT" for name in KIT_CRATES)}
+        listed_crates = (licences / "crates").read_text().splitlines()
+        assert [line.partition(":")[0] for line in listed_crates] == sorted((*KIT_CRATES, "std", "ucd_perl"))
+        assert "std: the kit has no licence of its own for it" in listed_crates and "ucd_perl: LICENSE-UNICODE" in listed_crates
         assert "GNU Lesser General Public" in (licences / "libc.a.copyright").read_text()
         assert "LIBRARY EXCEPTION" in (licences / "libgcc.a.copyright").read_text().upper()
         for name in ("docs/GUIDE.md", "docs/report.schema.json", "examples/debian/debian/rules", "README.md"):
@@ -142,7 +158,7 @@ def test_the_record_says_what_the_programs_come_from(made: Path, tmp_path: Path)
 
 def test_fields_owners_and_times(made: Path) -> None:
     deb, dh_abi, rpm, archive = (made / "made" / name for name in NAMES)
-    assert done("dpkg-deb", "-f", deb, "Depends").strip() == "python3"
+    assert done("dpkg-deb", "-f", deb, "Depends").strip() == "python3 (>= 3.9)"
     named = {name for field in ("Recommends", "Suggests") for name in done("dpkg-deb", "-f", deb, field).strip().split(", ")}
     # dask comes with distributed
     assert set(PACKAGES.values()) - named == {"python3-dask"}
@@ -165,7 +181,7 @@ def test_a_program_for_a_newer_c_library_is_refused(tmp_path: Path) -> None:
     assert list((tmp_path / "made").iterdir()) == []
     ended = make(prefix, tmp_path / "made", "--libc", newest)
     assert ended.status == 0, ended
-    assert done("dpkg-deb", "-f", tmp_path / "made" / NAMES[0], "Depends").strip() == f"libc6 (>= {newest}), python3"
+    assert done("dpkg-deb", "-f", tmp_path / "made" / NAMES[0], "Depends").strip() == f"libc6 (>= {newest}), python3 (>= 3.9)"
     assert "libc.a" not in done("dpkg-deb", "-c", tmp_path / "made" / NAMES[0])
     assert f"libc.so.6(GLIBC_{newest})(64bit)" in done("rpm", "-qp", "--requires", tmp_path / "made" / NAMES[2]).split()
 
@@ -181,6 +197,11 @@ def test_what_is_no_installation_of_these_sources_is_refused(made: Path, tmp_pat
         ended = make(prefix, tmp_path / "made")
         assert ended.status == 2 and words in ended.errors and len(ended.errors.splitlines()) == 1, ended
         (prefix / name).write_bytes(before)
+    licence = tmp_path / "kit/rattle/hex/LICENSE-MIT"
+    shutil.move(licence, tmp_path / "LICENSE")
+    named = f"PATH={tmp_path / 'kit/bin'}:{os.environ['PATH']}"
+    ended = run("env", f"SOURCE_DATE_EPOCH={TIME}", named, TOOLS / "make-packages", "--version", VERSION, prefix, tmp_path / "made")
+    assert ended.status == 2 and f"no licence of crates that the programs use: put a file LICENSE into {licence.parent}\n" in ended.errors
     (prefix / "bin/abi").unlink()
     ended = make(prefix, tmp_path / "made")
     assert ended.status == 2 and "is no folder into which install.sh installed" in ended.errors

@@ -23,6 +23,8 @@ _DESCRIPTION = (
 # Debian and Fedora have them by the same names.
 _RECOMMENDED = ("python3-libarchive-c", "python3-zstandard", "python3-debian", "python3-jinja2", "python3-rich")
 _SUGGESTED = ("python3-distributed", "python3-cryptography")
+# The oldest Python that runs the tools.
+_PYTHON = "3.9"
 # Python's modules are compiled at installation, since users may not write there. The tools also run without.
 _POSTINST = """\
 #!/bin/sh
@@ -42,7 +44,7 @@ fi
 
 def abi_for_debian(needs: Needs) -> Package:
     """The package `abi` of Debian."""
-    return Package("abi", "amd64", [*needs.debian(), "python3"], _RECOMMENDED, _SUGGESTED, (), _DESCRIPTION,
+    return Package("abi", "amd64", [*needs.debian(), f"python3 (>= {_PYTHON})"], _RECOMMENDED, _SUGGESTED, (), _DESCRIPTION,
                    (("postinst", _POSTINST), ("prerm", _PRERM)))
 
 

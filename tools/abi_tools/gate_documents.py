@@ -85,7 +85,7 @@ def _library(one: Outcome) -> Json:
     return {"name": _text(one.name), "answer": one.word, "old": _path(one.old), "new": _path(one.new), "said": line_shown(one.said),
             **{name: count if one.verdict == Verdict.YES else None for name, count in counts.items()},
             "breaks": [_break(found) for found in one.breaks], "remarks": [line_shown(remark) for remark in one.remarks],
-            "grown": [_grown(found) for found in one.grown], "notes": _notes(one),
+            "grown": None if one.grown is None else [_grown(found) for found in one.grown], "notes": _notes(one),
             "certificate": _path(one.certificate), "report": _path(one.report), "no_report": line_shown(one.no_report)}
 
 
@@ -100,7 +100,7 @@ def _break(found: Break) -> Json:
 
 
 def _grown(found: Grown) -> Json:
-    return {"enumeration": line_shown(found.enumeration), "enumerators": [name_shown(name) for name in found.enumerators],
+    return {"type": line_shown(found.type_name), "parts": found.parts, "added": [name_shown(name) for name in found.added],
             "exports": [line_shown(label) for label in found.exports]}
 
 

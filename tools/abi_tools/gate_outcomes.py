@@ -47,18 +47,20 @@ class Break:
 
 @dataclass(frozen=True)
 class Grown:
-    """An enumeration that has more enumerators than before: its name, these enumerators, and the exports that lead to it."""
+    """A type that has more than before: its name, whether these are `members` in holes or `enumerators`, their names, and the exports that
+    lead to it."""
 
-    enumeration: str
-    enumerators: tuple[str, ...]
+    type_name: str
+    parts: str
+    added: tuple[str, ...]
     exports: tuple[str, ...]
 
 
 @dataclass(frozen=True)
 class Outcome:
     """What became of a library: the word for it, its name, both files, the sentence, the text and the notes of `abi`, the breaks of a no,
-    how many exports were compared, counted for the share, and had types, the remarks on files of symbols, the enumerations of a yes that
-    have grown, and where the certificate and the report are kept, or why there is no report."""
+    how many exports were compared, counted for the share, and had types, the remarks on files of symbols, the types of a yes that have
+    grown (none if that cannot be told), and where the certificate and the report are kept, or why there is no report."""
 
     word: str
     name: str
@@ -72,7 +74,7 @@ class Outcome:
     counting: int = 0
     typed: int = 0
     remarks: tuple[str, ...] = ()
-    grown: tuple[Grown, ...] = ()
+    grown: Optional[tuple[Grown, ...]] = ()
     certificate: Optional[Path] = None
     report: Optional[Path] = None
     no_report: str = ""

@@ -68,14 +68,25 @@ class Beside:
         return found
 
     def with_grown(self, outcomes: Sequence[Outcome]) -> list[Outcome]:
-        """The outcomes, each yes with the enumerations that have more enumerators than before, as far as they can be read."""
+        """The outcomes, each yes with the types that have more members or enumerators than before, if that can be told."""
         numbers = [number for number, one in enumerate(outcomes) if one.verdict == Verdict.YES]
-        steps = [partial(_grown, outcomes[number]) for number in numbers]
+        steps = [partial(self._grown, outcomes[number]) for number in numbers]
         found = list(outcomes)
         for at, value in Steps[tuple[Grown, ...]](self.limits, self.workers).run(steps):
-            if not isinstance(value, Failure):
-                found[numbers[at]] = replace(found[numbers[at]], grown=value)
+            found[numbers[at]] = replace(found[numbers[at]], grown=None if isinstance(value, Failure) else value)
         return found
+
+    def _grown(self, one: Outcome) -> tuple[Grown, ...]:
+        """The types of a yes that have grown. Raises a fault if that cannot be told."""
+        programs = importlib.import_module("abi.programs")
+        try:
+            notes = programs.check(one.old, one.new, self.rules, notes=True).notes
+        except programs.NoAnswer as error:
+            raise Fault(str(error)) from error
+        if notes is None:
+            raise Fault("memory or a limit left no notes")
+        found = importlib.import_module("abi_report.added").added(one.old, one.new, one.text, notes)
+        return tuple(Grown(more.type_name, more.parts, more.names, more.exports) for more in found)
 
     def _placed(self, one: Outcome) -> tuple[Break, ...]:
         """The breaks of an outcome with names and places. Raises a fault if `abi-json` does not say the same ones."""
@@ -89,12 +100,6 @@ class Beside:
         places = {(said.export, said.steps): said.new_place or said.old_place for said in found}
         return tuple(_with_place(known, said.name, [places.get((said.export, said.steps[:end])) for end in range(len(said.steps), -1, -1)])
                      for known, said in zip(one.breaks, found))
-
-
-def _grown(one: Outcome) -> tuple[Grown, ...]:
-    """The enumerations of a yes that have grown. Raises a fault if they cannot be read."""
-    found = importlib.import_module("abi_report.added").added_enumerators(one.old, one.new, one.text)
-    return tuple(Grown(more.enumeration, more.enumerators, more.exports) for more in found)
 
 
 def _with_place(known: Break, name: str, places: Sequence[Any]) -> Break:
