@@ -30,7 +30,7 @@ _TASKS_FOR_A_THREAD = 4
 _LEAST_TASKS = 16
 # How many tasks a batch has at most; batches become smaller when fewer than _LEAST_BATCHES full ones are left for each worker thread. A
 # worker begins no further task of a batch after _LONGEST_BATCH seconds.
-_LARGEST_BATCH = 32
+_LARGEST_BATCH = 128
 _LEAST_BATCHES = 16
 _LONGEST_BATCH = 5.0
 # How many clusters a run starts or connects to before it gives up, and how many seconds lie between checks for workers.
