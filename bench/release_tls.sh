@@ -1,12 +1,14 @@
 #!/usr/bin/env bash
 # What TLS costs a release: judges two releases of small packages with `tools/abi-release`, in turn with TLS between its processes, as
-# always, and without, which only this script can do. Prints the processor time of each run, of all its processes, and the ratio of the
-# least ones.
+# always, and without, which only this script can do, and also with another version of the tools, if a folder that has its abi-release is
+# given. Prints the processor time of each run, of all its processes, and the ratios of the least ones.
 #
-# usage: bench/release_tls.sh [ABI [PAIRS [WORKERS [TIMES]]]]     (default: the program that `rt run` built, 30000 pairs, 4 workers, once)
+# usage: bench/release_tls.sh [ABI [PAIRS [WORKERS [TIMES [TOOLS]]]]]
+#            (default: the program that `rt run` built, 30000 pairs, 4 workers, once, no other tools)
+#        DISTINCT=N bench/release_tls.sh ..     (N different libraries, which repeat)
 set -eu
 . "$(dirname "$0")/common.bash" "$@"
-pairs=${2:-30000} workers=${3:-4} times=${4:-1}
+pairs=${2:-30000} workers=${3:-4} times=${4:-1} tools=${5:-}
 folder=$PWD/release
 mkdir -p "$folder"
 rm -rf "$folder/old" "$folder/new" "$folder"/out*
@@ -38,12 +40,16 @@ judge() {
     echo "| $pairs | $kind | $(tail -n 1 "$kind") s | $digest |"
 }
 
-rm -f tls plain
-echo "| Pairs of packages | Between processes | Processor time | Digest |"
+# ratio KIND: prints the least time with TLS by the least time of a kind.
+ratio() { awk -v tls="$(sort -g tls | head -n 1)" -v other="$(sort -g "$1" | head -n 1)" 'BEGIN { printf "%.2f", tls / other }'; }
+
+rm -f tls plain other
+echo "| Pairs of packages | Tools | Processor time | Digest |"
 echo "|---|---|---|---|"
 for _ in $(seq "$times"); do
+    [ -z "$tools" ] || judge other "$tools/abi-release"
     judge tls "$top/tools/abi-release"
     judge plain /usr/bin/python3 "$folder/plain.py"
 done
-echo "with TLS: $(sort -g tls | head -n 1) s, without: $(sort -g plain | head -n 1) s, ratio $(
-    awk 'NR == FNR { tls = $1; next } { printf "%.2f", tls / $1 }' <(sort -g tls | head -n 1) <(sort -g plain | head -n 1))"
+echo "with TLS: $(sort -g tls | head -n 1) s, without: $(sort -g plain | head -n 1) s, ratio $(ratio plain)"
+[ -z "$tools" ] || echo "other tools: $(sort -g other | head -n 1) s, ratio $(ratio other)"

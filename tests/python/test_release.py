@@ -25,7 +25,7 @@ from abi_release.judging import Part, Settings
 from abi_release.limited_program import Limits
 from abi_release.needs import version_and_depends
 from abi_release.progress import PlainProgress
-from abi_release.scheduling import Given, Run, _Turn, done_in_turn
+from abi_release.scheduling import Given, Run, _Lost, _Turn, done_in_turn
 from abi_release.small_packages import SmallPackage, small_side
 from abi_release.sources import Work
 from abi_release.stored_files import Store
@@ -329,6 +329,42 @@ def test_a_batch_ends_in_time_and_what_is_left_is_done_then(tmp_path: Path, monk
     monkeypatch.setattr(ended, "result", lambda: outcomes)
     nexts = turn._next_after(parts, ended)  # pylint: disable=protected-access
     assert [one.is_done for one in nexts] == [True, False] and nexts[-1].rest == parts[1:]
+
+
+class Turn:
+    """The part of a run that one cluster does: it is lost as often as `losses` says, and else done at once."""
+
+    losses = 0
+
+    def __init__(self, *_: object) -> None:
+        """Takes what a turn takes."""
+
+    def run(self) -> None:
+        """Does nothing."""
+        Turn.losses -= 1
+        if Turn.losses >= 0:
+            raise _Lost("the scheduler is gone")
+
+
+def test_a_run_keeps_its_cluster(tmp_path: Path, monkeypatch: pytest.MonkeyPatch) -> None:
+    """One cluster does all that a run does, until it is lost. The last one ends with the run."""
+    clusters: list[str] = []
+
+    @contextlib.contextmanager
+    def client(_choice: LocalChoice) -> Iterator[object]:
+        clusters.append("begun")
+        yield object()
+        clusters.append("ended")
+
+    monkeypatch.setattr(LocalChoice, "client", client)
+    monkeypatch.setattr("abi_release.scheduling._Turn", Turn)
+    store = Store(tmp_path / "out")
+    os.close(store.open())
+    with Run(settings_of(tmp_path, store), store, LocalChoice(1, 100), tries=1, patience=1) as judging:
+        for Turn.losses in (0, 0, 1, 0):
+            judging.over([Part(Work("lib0", ("old.deb",), ("new.deb",)))], PlainProgress(1, "packages", sys.stderr))
+        assert clusters == ["begun", "ended", "begun"]
+    assert clusters == ["begun", "ended", "begun", "ended"]
 
 
 class LostResult:

@@ -25,7 +25,7 @@ from abi_release.pages import write_page
 from abi_release.progress import progress_of
 from abi_release.reports import Reports, json_program
 from abi_release.scheduling import Run, Task
-from abi_release.sources import Release, works
+from abi_release.sources import Release, Work, works
 from abi_release.stored_files import Json, Store
 from abi_release.tables import Table, moved, write_json, write_text
 from abi_release.texts import whole_output
@@ -175,6 +175,17 @@ def _do(run: Run, tasks: Sequence[Task], what: str) -> None:
 def _judge(run: Run, abi: Abi, releases: Sequence[Release], head: Json) -> Verdict:
     start = time.monotonic()
     packages = works(*releases)
+    with run:
+        table = _table(run, abi, packages)
+    print(f"abi-release: {len(packages)} packages in {time.monotonic() - start:.1f} seconds: {run.counts['judged']} pairs of libraries "
+          f"judged, {run.counts['kept']} kept; this process took {_peak_megabytes():.0f} MB", file=sys.stderr)
+    _write(table, head, run.store)
+    print(table.summary())
+    return table.verdict()
+
+
+def _table(run: Run, abi: Abi, packages: Sequence[Work]) -> Table:
+    """Judges all packages, and makes all that the lines of the table need."""
     _do(run, [Part(work) for work in sorted(packages, key=lambda work: work.group)], "packages")
     moves = moved(packages, run)
     _do(run, [Part(work) for work in moves], "packages")
@@ -187,11 +198,7 @@ def _judge(run: Run, abi: Abi, releases: Sequence[Release], head: Json) -> Verdi
     explains = table.explains()
     _do(run, explains, "pages")
     _say_what_failed(run, explains, "pages of abi-report could not be made")
-    print(f"abi-release: {len(packages)} packages in {time.monotonic() - start:.1f} seconds: {run.counts['judged']} pairs of libraries "
-          f"judged, {run.counts['kept']} kept; this process took {_peak_megabytes():.0f} MB", file=sys.stderr)
-    _write(table, head, run.store)
-    print(table.summary())
-    return table.verdict()
+    return table
 
 
 def _say_what_failed(run: Run, tasks: Sequence[Task], what: str) -> None:

@@ -4,6 +4,7 @@ since a Dask task costs more than judging a small library."""
 
 from __future__ import annotations
 
+import contextlib
 import itertools
 import operator
 import threading
@@ -30,7 +31,7 @@ _TASKS_FOR_A_THREAD = 4
 _LEAST_TASKS = 16
 # How many tasks a batch has at most; batches become smaller when fewer than _LEAST_BATCHES full ones are left for each worker thread. A
 # worker begins no further task of a batch after _LONGEST_BATCH seconds.
-_LARGEST_BATCH = 32
+_LARGEST_BATCH = 128
 _LEAST_BATCHES = 16
 _LONGEST_BATCH = 5.0
 # How many clusters a run starts or connects to before it gives up, and how many seconds lie between checks for workers.
@@ -79,7 +80,8 @@ class _NoWorkers(Exception):
 @dataclass
 class Run:
     """A run over packages on a cluster. The results are in the store; what failed in this run is here: packages by name, and libraries by
-    package and library. `identities` has a digest of the identity of each record that belongs to this run."""
+    package and library. `identities` has a digest of the identity of each record that belongs to this run. As a context it keeps one
+    cluster for all that it does, since starting one takes as long as hundreds of small libraries."""
 
     settings: Settings
     store: Store
@@ -97,6 +99,26 @@ class Run:
     def __post_init__(self) -> None:
         self._source: Iterator[Task] = iter(())
         self._openings = Openings(self.store)
+        self._cluster = contextlib.ExitStack()
+        self._client: Optional[Client] = None
+        self.keys = (f"judged-{number}" for number in itertools.count())
+
+    def __enter__(self) -> "Run":
+        return self
+
+    def __exit__(self, *_: object) -> None:
+        self._leave()
+
+    def _joined(self) -> Client:
+        """A client of the cluster, which starts unless it runs."""
+        if self._client is None:
+            self._client = self._cluster.enter_context(self.choice.client())
+        return self._client
+
+    def _leave(self) -> None:
+        """Ends the cluster, or leaves it."""
+        self._client = None
+        self._cluster.close()
 
     def over(self, tasks: Sequence[Task], progress: Progress) -> None:
         """Does all tasks: those that open packages, that ask `abi app`, or that make pages. Tasks that cannot be done become failures."""
@@ -105,8 +127,7 @@ class Run:
         for _ in range(_MOST_CLUSTERS):
             reason = ""
             try:
-                with self.choice.client() as client:
-                    return _Turn(self, client, source, left, progress).run()
+                return _Turn(self, self._joined(), source, left, progress).run()
             except _NoWorkers as lost:
                 reason = str(lost)
                 if not isinstance(self.choice, LocalChoice):
@@ -116,6 +137,9 @@ class Run:
             except Fault as fault:
                 reason = str(fault)
                 break
+            finally:
+                if reason:
+                    self._leave()
         for part in itertools.chain(left, source):
             if part.name not in self.failures:
                 self.failures[part.name] = Failure(reason, self._tried[part.name, part.library] + 1)
@@ -209,7 +233,6 @@ class _Turn:
     def __init__(self, run: Run, client: Client, source: Iterator[Task], left: deque[Task], progress: Progress) -> None:
         self._run, self._client, self._source, self._left, self._progress = run, client, source, left, progress
         self._under_way: dict[str, list[Task]] = {}
-        self._numbers = itertools.count()
         self._threads = 1
         self._first: deque[Task] = deque()
         self._again: deque[Task] = deque()
@@ -263,7 +286,7 @@ class _Turn:
         return batch
 
     def _submit(self, batch: list[Task]) -> Future:
-        key = f"judged-{next(self._numbers)}"
+        key = next(self._run.keys)
         self._under_way[key] = batch
         given = [Given(task, self._run.passed_over(task)) for task in batch]
         try:

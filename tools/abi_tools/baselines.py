@@ -2,7 +2,6 @@
 
 from __future__ import annotations
 
-from dataclasses import replace
 from typing import Iterator
 
 from abi_tools.elf_files import ElfFile, Section
@@ -37,7 +36,7 @@ def _kept(library: ElfFile) -> Iterator[tuple[Section, bytes]]:
         section = library.sections[number]
         name = section.name.replace(".zdebug_", ".debug_", 1)
         # A compressed section is aligned as its header needs it, and not as its contents do. DWARF needs no alignment.
-        yield replace(section, name=name, alignment=1 if section.is_debug else section.alignment), library.contents(section)
+        yield section._replace(name=name, alignment=1 if section.is_debug else section.alignment), library.contents(section)
 
 
 def _chosen(library: ElfFile) -> Iterator[int]:

@@ -77,12 +77,12 @@ class Header(NamedTuple):
 
 
 _HEADER = struct.Struct("<16xHHIQQQIHHHHHH")
+SECTION_LAYOUT = struct.Struct("<IIQQQQIIQQ")
 
 
-@dataclass(frozen=True)
-class Section:
+class Section(NamedTuple):
     """A section: its number in the file, and the fields of its header (gABI, "Section Header"), with the name itself in place of the
-    name's offset."""
+    name's offset. It is a tuple, since files have many of them and a data class takes four times as long to make."""
 
     number: int
     name: str
@@ -95,8 +95,6 @@ class Section:
     info: int
     alignment: int
     entry_size: int
-
-    LAYOUT = struct.Struct("<IIQQQQIIQQ")
 
     @property
     def holds_bytes(self) -> bool:
@@ -115,8 +113,7 @@ class Section:
 
     def header(self, name: int) -> bytes:
         """The bytes of the header in a file that has the section's name at the offset `name`."""
-        return self.LAYOUT.pack(name, self.kind, self.flags, self.address, self.offset, self.size, self.link, self.info,
-                                self.alignment, self.entry_size)
+        return SECTION_LAYOUT.pack(name, *self[2:])
 
 
 @dataclass(frozen=True)
@@ -186,7 +183,7 @@ class ElfFile:
 
     def _read_sections(self) -> Iterator[Section]:
         """The sections with their names. A count that is too large for the file header is in the first section header."""
-        header, layout = self.header, Section.LAYOUT
+        header, layout = self.header, SECTION_LAYOUT
         if not header.sections_at:
             return
         first = layout.unpack(self._bytes(header.sections_at, layout.size))
@@ -216,7 +213,7 @@ class ElfFile:
         number = self.header.names
         if number != _SHN_XINDEX:
             return number
-        return int(Section.LAYOUT.unpack(self._bytes(self.header.sections_at, Section.LAYOUT.size))[6])
+        return int(SECTION_LAYOUT.unpack(self._bytes(self.header.sections_at, SECTION_LAYOUT.size))[6])
 
     def _check_ranges(self) -> None:
         if not self.sections:

@@ -3,10 +3,10 @@
 from __future__ import annotations
 
 import struct
-from dataclasses import dataclass, replace
+from dataclasses import dataclass
 from typing import Collection, Sequence
 
-from abi_tools.elf_files import ElfFile, SHT_NULL, SHT_PROGBITS, Section
+from abi_tools.elf_files import SECTION_LAYOUT, SHT_NULL, SHT_PROGBITS, ElfFile, Section
 from abi_tools.faults import Fault
 from abi_tools.inflating import SHF_COMPRESSED
 
@@ -35,8 +35,8 @@ class AddedSection:
 
     def placed(self, offset: int) -> Section:
         """The header of the section, placed at the offset."""
-        return replace(self.like, kind=SHT_PROGBITS, flags=self.like.flags & ~SHF_COMPRESSED, address=0, offset=offset,
-                       size=len(self.contents), link=0, info=0)
+        return self.like._replace(kind=SHT_PROGBITS, flags=self.like.flags & ~SHF_COMPRESSED, address=0, offset=offset,
+                                  size=len(self.contents), link=0, info=0)
 
 
 def _pad(image: bytearray, alignment: int) -> None:
@@ -77,10 +77,10 @@ def sections_alone(library: ElfFile, sections: Sequence[tuple[Section, bytes]]) 
     table = [_NONE]
     for section, contents in sections:
         _pad(image, min(section.alignment, _TABLE_ALIGNMENT))
-        table.append(replace(section, flags=section.flags & ~SHF_COMPRESSED, offset=len(image), size=len(contents),
-                             link=numbers.get(section.link, 0)))
+        table.append(section._replace(flags=section.flags & ~SHF_COMPRESSED, offset=len(image), size=len(contents),
+                                      link=numbers.get(section.link, 0)))
         image += contents
-    names = replace(_NONE, name=".shstrtab", kind=_SHT_STRTAB, alignment=1)
+    names = _NONE._replace(name=".shstrtab", kind=_SHT_STRTAB, alignment=1)
     _write_table(image, [*table, names], len(table), b"\0")
     return bytes(image)
 
@@ -100,10 +100,10 @@ def _write_table(image: bytearray, sections: Sequence[Section], names_number: in
     table_at = len(image)
     for number, section in enumerate(sections):
         if number == names_number:
-            section = replace(section, offset=names_at, size=len(names))
+            section = section._replace(offset=names_at, size=len(names))
         image += section.header(places[section.name])
     _SECTION_HEADERS_AT[0].pack_into(image, _SECTION_HEADERS_AT[1], table_at)
     entry_size, count = _COUNTS_AT[0].unpack_from(image, _COUNTS_AT[1])[:2]
     if not _PROGRAM_HEADERS_AT[0].unpack_from(image, _PROGRAM_HEADERS_AT[1])[0]:
         count = 0
-    _COUNTS_AT[0].pack_into(image, _COUNTS_AT[1], entry_size, count, Section.LAYOUT.size, len(sections), names_number)
+    _COUNTS_AT[0].pack_into(image, _COUNTS_AT[1], entry_size, count, SECTION_LAYOUT.size, len(sections), names_number)

@@ -2,7 +2,6 @@
 
 from __future__ import annotations
 
-from dataclasses import replace
 from pathlib import Path
 from typing import Optional
 
@@ -80,4 +79,4 @@ def _written(library: ElfFile, headers: dict[str, Section], contents: dict[str, 
 
 def _named(header: Section, name: str) -> Section:
     """The header with this name, since a compressed section may have had another one."""
-    return replace(header, name=name)
+    return header._replace(name=name)

@@ -61,6 +61,7 @@ class LibraryNames:
         """Finds the names. Raises a fault if they are too many."""
         self.libraries = tuple(libraries)
         self._tree = installed(trees)
+        self._places: dict[PackagedLibrary, dict[Place, None]] = {}
         self._files = {merged_name(one.name): one for one in libraries}
         # Of two files of one name on a merged system, such as `lib/libx.so.1` and `usr/lib/libx.so.1`, nothing says which one stays.
         self.doubled = {library for one in libraries for library in (one, self._files[merged_name(one.name)])
@@ -114,7 +115,11 @@ class LibraryNames:
 
     def places(self, library: PackagedLibrary) -> dict[Place, None]:
         """Where a library is found: the place of its file, and those of the names by which the loader opens it."""
-        return dict.fromkeys(Place.of(name.rpartition("/")[0]) for name in (library.name, *self.loaded_names(library)))
+        known = self._places.get(library)
+        if known is None:
+            known = self._places[library] = dict.fromkeys(
+                Place.of(name.rpartition("/")[0]) for name in (library.name, *self.loaded_names(library)))
+        return known
 
 
 def installed(trees: Sequence[Tree]) -> Tree:
