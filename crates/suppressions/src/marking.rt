@@ -331,7 +331,7 @@ fn flags_of(
 
 /// What a rule file suppresses in a library: the exports that it drops, and the nodes that it marks, by value and through a
 /// pointer. Nodes with equal labels have equal marks. Returns `NoMemory` if memory runs out, or if the soname or the patterns
-/// exceed a limit of `docs/LIMITS.md`.
+/// exceed a limit of `docs/manual/LIMITS.md`.
 #[tactic(auto, unfolding(crate::specs::Marks::marks_of, crate::specs::Meaning::is_dropped, crate::specs::Meaning::is_marked))]
 pub fn marks(alloc: Global, rules: &Rules, old: &Library<OldIx>) -> Result<Marks, NoMemory>
     ensures marks { IfOk result (λ marks. marks ≡ marks_of rules.now old.now) }
