@@ -1,6 +1,6 @@
 -- Visits and the paths to them can be read, and notes are added visit by visit.
 use Rattle.std.proofs.Common.{◌≡◌, ◌+◌, ◌∙◌, ℕ, Bool, true, false, List, [], ◌∷◌, ◌++◌, slice_get, map, Option, Some, None, ap, sym, subst, refl}
-use Rattle.std.specs.Prelude.{◌||◌, nat_eq}
+use Rattle.std.specs.Prelude.{◌||◌, nat_eq, if◌then◌else◌, option_to_list}
 use Rattle.std.specs.List.{flat_map, range_with_len}
 use Rattle.std.specs.HashSet.{contains}
 use Rattle.std.proofs.lemmas.List.{append-nil}
@@ -26,7 +26,7 @@ use Rattle.pair_compare.specs.reports.PathTexts.{label_at, steps_text, IsWalk}
 use Rattle.type_notes.specs.declared.difference.Difference.{Difference}
 use Rattle.type_notes.specs.declared.note.Note.{Note}
 use Rattle.type_notes.specs.DefinedElsewhere.{definitions_behind}
-use Rattle.type_notes.specs.NotedPairs.{PlainPair, AreCompared, AreReadable, Numbers, definitions_at, difference_note, is_of, new_core, noted_at, notes_at, notes_below, old_core, was_compared}
+use Rattle.type_notes.specs.NotedPairs.{PlainPair, AreCompared, AreReadable, Numbers, change_behind, change_unless, defined_behind, definition_changes, definitions_at, difference_note, differences_of, is_of, new_core, noted_at, notes_at, notes_below, notes_from, old_core, was_compared}
 use Rattle.pair_compare.proofs.lemmas.Paths.{export_of-followed}
 use Rattle.abi_base.proofs.lemmas.Lists.{at_below}
 
@@ -109,3 +109,24 @@ pub compared_free : (p : PlainPair) (vs : List Visit) (n : ℕ) (v : Visit) (old
     → ((a : ℕ) → contains nat_eq new a ≡ (contains nat_eq old a || is_of a found)) → AreCompared p vs (n + 1) new
 compared_free p vs n v old new found at so_far free is adds =
     compared_more p vs n v old new at so_far (λ a. adds a ∙ ap (λ (o : Option (ℕ × ℕ)). contains nat_eq old a || is_of a o) (is ∙ sym (unmarked p v free)))
+
+-- ---- the notes of a visit
+
+among_same : (p : PlainPair) (one other : ℕ → Bool) (o : Option (ℕ × ℕ)) → ((a : ℕ) → one a ≡ other a) → change_unless one p o ≡ change_unless other p o
+among_same p one other None same = refl
+among_same p one other (Some (a, b)) same = ap (λ (x : Bool). if x then [] else option_to_list (change_behind p a b)) (same a)
+
+-- a visit that is marked has none
+pub notes_marked : (p : PlainPair) (vs : List Visit) (n : ℕ) (v : Visit) → slice_get vs n ≡ Some v → is_marked (task_of p.sides) v.old v.way ≡ true → notes_at p vs n ≡ []
+unfolding notes_at
+notes_marked p vs n v at marked =
+    ap (notes_from p vs n) at ∙ ap (λ (x : Bool). if x then [] else map (noted_at p.sides vs n) (differences_of p v ++ definition_changes p vs n v)) marked
+
+-- another one has those of its types, and of the definitions behind them unless these are in the set
+pub notes_free : (p : PlainPair) (vs : List Visit) (n : ℕ) (v : Visit) (compared : Numbers) → slice_get vs n ≡ Some v → AreCompared p vs n compared
+    → is_marked (task_of p.sides) v.old v.way ≡ false → notes_at p vs n ≡ map (noted_at p.sides vs n) (differences_of p v ++ change_unless (contains nat_eq compared) p (defined_behind p v))
+unfolding notes_at
+notes_free p vs n v compared at so_far free =
+    ap (notes_from p vs n) at ∙ ap (λ (x : Bool). if x then [] else map (noted_at p.sides vs n) (differences_of p v ++ definition_changes p vs n v)) free
+    ∙ ap (λ (xs : List Difference). map (noted_at p.sides vs n) (differences_of p v ++ xs))
+    (among_same p (was_compared p vs n) (contains nat_eq compared) (definitions_at p v) (λ a. sym (so_far.each a)) ∙ ap (change_unless (contains nat_eq compared) p) (unmarked p v free))

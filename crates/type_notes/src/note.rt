@@ -5,7 +5,7 @@ ghost use Rattle.type_notes.specs.Notes.{kind_name, weight_of};
 use abi_base::List;
 
 /// The subject of a note.
-#[derive(Clone, Copy, Debug, PartialEq, Eq)]
+#[derive(Clone, Copy, PartialEq, Eq)]
 pub enum NoteKind {
     // ---- two types, or the entries behind them
     /// The dimensions of an array.
@@ -62,7 +62,7 @@ pub enum NoteKind {
 }
 
 /// What a difference may do to callers that were compiled against the old library.
-#[derive(Clone, Copy, Debug, PartialEq, Eq)]
+#[derive(Clone, Copy, PartialEq, Eq)]
 pub enum NoteWeight {
     /// It can break callers, though no rule judges it.
     CanBreakCallers,

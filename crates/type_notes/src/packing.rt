@@ -54,7 +54,6 @@ fn stands_off<Ix: Index>(graph: &Graph<Ix>, ix: Ix, k: usize, aligns: &[u64]) ->
 }
 
 // Whether some member of a type is not at its natural alignment, by the alignments of all nodes.
-#[tactic(auto, using(crate::proofs::AnyLemmas::any_more, crate::proofs::AnyLemmas::any_all, pair_rules::proofs::lemmas::Lists::any_is))]
 fn is_packed<Ix: Index>(graph: &Graph<Ix>, ix: Ix, aligns: &[u64]) -> bool
     requires node { Ix.number_of ix < length graph.now }
     requires aligns { aligns.now ≡ all_alignments graph.now }

@@ -63,7 +63,6 @@ fn bits_at<Ix: Index>(graph: &Graph<Ix>, ix: Ix, k: usize) -> Bits
 }
 
 // Whether no member of a structure has one of the bits.
-#[tactic(auto, using(crate::proofs::AnyLemmas::any_more, crate::proofs::AnyLemmas::any_all, pair_rules::proofs::lemmas::Lists::any_is))]
 fn is_free<Ix: Index>(graph: &Graph<Ix>, ix: Ix, bits: Bits) -> bool
     requires { Ix.number_of ix < length graph.now }
     ensures { result ≡ spec.is_free graph.now (view_at graph.now (Ix.number_of ix)) bits }

@@ -31,14 +31,11 @@ const CHILD: usize = 4;
 // What a note takes besides its texts.
 const NOTE: usize = 128;
 
-// The number of pairs of an old and a new member of the types of a visit.
-fn member_pairs(ground: &NotedPair, visit: &Visit) -> usize
-    requires old { visit.now.old < length ground.now.pair.old.now.graph }
-    requires new { visit.now.new < length ground.now.pair.new.now.graph }
+// The number of parts of a type.
+fn parts_in<Ix: Index>(graph: &Graph<Ix>, ix: Ix) -> usize
+    requires { Ix.number_of ix < length graph.now }
 {
-    let old = ground.pair.old.graph().view(visit.old);
-    let new = ground.pair.new.graph().view(visit.new);
-    old.parts_len().saturating_mul(new.parts_len())
+    graph.view(ix).parts_len()
 }
 
 /// The memory of the notes, and the budget for the bytes of their names and texts. The notes on two builds of one source take less
@@ -144,22 +141,16 @@ impl NoteRoom {
         }
     }
 
-    // Takes the two types of a visit.
-    fn take_types(&mut self, ground: &NotedPair, visit: &Visit) -> Result<(), NoMemory>
-        requires old { visit.now.old < length ground.now.pair.old.now.graph }
-        requires new { visit.now.new < length ground.now.pair.new.now.graph }
-    {
-        self.take_type(ground.old_dwarf, ground.pair.old.graph(), visit.old)?;
-        self.take_type(ground.new_dwarf, ground.pair.new.graph(), visit.new)
-    }
-
     /// Takes the two types of a visit, and a comparison of each new member with each old one.
     pub(crate) fn take_visit(&mut self, ground: &NotedPair, visit: &Visit) -> Result<(), NoMemory>
         requires old { visit.now.old < length ground.now.pair.old.now.graph }
         requires new { visit.now.new < length ground.now.pair.new.now.graph }
     {
-        self.take_types(ground, visit)?;
-        self.take(member_pairs(ground, visit))
+        let old = ground.pair.old.graph();
+        let new = ground.pair.new.graph();
+        self.take_type(ground.old_dwarf, old, visit.old)?;
+        self.take_type(ground.new_dwarf, new, visit.new)?;
+        self.take(parts_in(old, visit.old).saturating_mul(parts_in(new, visit.new)))
     }
 
     // Takes the chain of types of a member, with the dimensions of its arrays.
