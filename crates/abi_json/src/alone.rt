@@ -4,14 +4,13 @@ ghost use Rattle.std.specs.Prelude.{◌≤◌, length, IfOk};
 ghost use Rattle.abi_base.specs.Limits.{input_limit};
 
 use crate::beside::notes_value;
-use crate::document::{Ending, document_of};
-use crate::files::bytes_of;
+use crate::document::document_of;
 use crate::told::Told;
-use crate::wanted::Wanted;
 use abi_base::NoMemory;
 use cli_args::commands::CheckWords;
 use cli_args::{ParsedArguments, Request, parse_arguments};
 use commands::{File, Input, Outcome, Verdict};
+use document_head::{Ending, Wanted, bytes_of};
 use serde_json::Value;
 use std::alloc::Global;
 use std::rt::Files;

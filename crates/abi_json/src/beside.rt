@@ -2,34 +2,15 @@
 ghost use Rattle.std.specs.Prelude.{◌≤◌, length};
 ghost use Rattle.abi_base.specs.Limits.{input_limit};
 
-use crate::document::Ending;
-use crate::files::bytes_of;
 use abi_base::NoMemory;
 use commands::{Input, Outcome};
-use explain::name_of;
+use document_head::{Ending, input_bytes};
 use serde_json::{Map, Value, put};
 use side_notes::all_notes;
 use std::alloc::{AllocError, Global};
 use std::rt::Files;
 use std::str;
 use type_notes::Note;
-
-/// The bytes of an input; none if it was not read under a name, or cannot be read again.
-pub(crate) fn input_bytes<R: Files + AllocGlobal>(
-    rt: &R,
-    ending: &Ending<'_>,
-    which: Input,
-) -> Vec<u8>
-    ensures { length result.items ≤ input_limit }
-{
-    let Some(path) = name_of(ending.files, which) else {
-        return Vec::new(rt.alloc());
-    };
-    match bytes_of(rt, path) {
-        Some(bytes) => bytes,
-        None => Vec::new(rt.alloc()),
-    }
-}
 
 // A text, or null if it is empty.
 fn text_value(alloc: Global, text: &[u8]) -> Result<Value, AllocError> {

@@ -5,20 +5,17 @@
 mod alone;
 mod beside;
 mod document;
-mod files;
-mod libraries;
-mod names;
-mod places;
 mod told;
 mod wanted;
 mod words;
 
 use crate::alone::{is_for_notes, notes_told};
 use crate::told::{Told, told_of};
-use crate::wanted::{Wanted, wanted_by};
+use crate::wanted::wanted_by;
 use crate::words::words_of;
 use abi_base::{FileInputs, NoMemory, StdSink, write_all};
 use commands::Outcome;
+use document_head::Wanted;
 use explain::memory_sentence;
 use std::io::ErrorKind;
 use std::process::ExitCode;

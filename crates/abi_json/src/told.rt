@@ -6,11 +6,11 @@ ghost use Rattle.abi_top.specs.Calls.{Call, call_of};
 ghost use Rattle.json_report.specs.Breaks.{json_voice};
 
 use crate::beside::side_notes_value;
-use crate::document::{Ending, document_of};
-use crate::wanted::Wanted;
+use crate::document::document_of;
 use abi_base::{Inputs, NoMemory};
 use abi_top::run;
 use commands::{Outcome, Verdict};
+use document_head::{Ending, Wanted};
 use json_report::{JsonListener, TextSink};
 use report::{Listener, add_listener};
 use std::rt::Files;

@@ -45,9 +45,9 @@ fn effort_for(length: usize) -> Effort {
 }
 
 // The object of a source position, or null.
-fn place_value(
+fn place_value<'p>(
     alloc: Global,
-    places: &mut PlaceReader<'_, '_>,
+    places: &mut PlaceReader<'p, 'p>,
     offset: DebugInfoOffset,
 ) -> Result<Value, NoMemory> {
     let Some(place) = places.place_of(alloc, offset)? else {
@@ -72,10 +72,10 @@ fn put_fact(
 }
 
 // Adds the source position of an entry under its offset, if it has one.
-fn put_place(
+fn put_place<'p>(
     alloc: Global,
     map: &mut Map<String, Value>,
-    places: &mut PlaceReader<'_, '_>,
+    places: &mut PlaceReader<'p, 'p>,
     offset: DebugInfoOffset,
 ) -> Result<(), NoMemory> {
     let place = place_value(alloc, places, offset)?;
@@ -90,7 +90,7 @@ fn put_place(
 fn put_name(
     alloc: Global,
     map: &mut Map<String, Value>,
-    names: &mut TypeNames<'_, '_>,
+    names: &mut TypeNames<'_>,
     offset: DebugInfoOffset,
 ) -> Result<(), NoMemory> {
     let Some(name) = type_name(alloc, names, offset)? else {
@@ -122,7 +122,7 @@ fn entries_of(
 // The typedefs of a library, if some type without a tag may have its name from one.
 fn wanted_typedefs(
     alloc: Global,
-    entries: &NamedEntries<'_, '_>,
+    entries: &NamedEntries<'_>,
     offsets: &[DebugInfoOffset],
 ) -> Result<Typedefs, NoMemory> {
     for offset in offsets {
@@ -134,10 +134,10 @@ fn wanted_typedefs(
 }
 
 // The source positions and the names of entries.
-fn facts_by(
+fn facts_by<'p>(
     alloc: Global,
-    places: &mut PlaceReader<'_, '_>,
-    names: &mut TypeNames<'_, '_>,
+    places: &mut PlaceReader<'p, 'p>,
+    names: &mut TypeNames<'_>,
     offsets: &[DebugInfoOffset],
 ) -> Result<TypeFacts, NoMemory> {
     let mut facts = TypeFacts::none(alloc);
@@ -152,7 +152,7 @@ fn facts_by(
 fn facts_in(
     alloc: Global,
     places: &EntryPlaces<'_>,
-    entries: NamedEntries<'_, '_>,
+    entries: NamedEntries<'_>,
     offsets: &[DebugInfoOffset],
     length: usize,
 ) -> Result<TypeFacts, NoMemory> {

@@ -16,7 +16,7 @@ fn is_file<R: Files>(rt: &R, path: &str) -> bool {
 }
 
 /// The bytes of a file, or `None` if they cannot be read again.
-pub(crate) fn bytes_of<R: Files + AllocGlobal>(rt: &R, path: &str) -> Option<Vec<u8>>
+pub fn bytes_of<R: Files + AllocGlobal>(rt: &R, path: &str) -> Option<Vec<u8>>
     ensures { IfSome result (λ bytes. length bytes.items ≤ input_limit) }
 {
     if !is_file(rt, path) {

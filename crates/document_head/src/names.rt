@@ -15,11 +15,11 @@ use std::str;
 
 /// The entries of a library, and the sections that hold their names.
 #[derive(Clone, Copy)]
-pub(crate) struct NamedEntries<'x, 'a> {
+pub(crate) struct NamedEntries<'x> {
     /// The tree of entries.
-    pub tree: &'x Tree<'a>,
+    pub tree: &'x Tree<'x>,
     /// The sections.
-    pub sections: Sections<'a>,
+    pub sections: Sections<'x>,
 }
 
 /// For each type that typedefs name, the first one of them: both by the offsets of their entries.
@@ -27,9 +27,9 @@ pub(crate) type Typedefs = HashMap<u64, u64>;
 
 /// The names of a library's types, with a budget for those of typedefs: many typedefs can share one long name.
 #[derive(Drop)]
-pub(crate) struct TypeNames<'x, 'a> {
+pub(crate) struct TypeNames<'x> {
     /// The entries.
-    pub entries: NamedEntries<'x, 'a>,
+    pub entries: NamedEntries<'x>,
     /// The typedefs that can name types without a tag.
     pub typedefs: Typedefs,
     /// The budget.
@@ -66,7 +66,7 @@ fn bases_of(tree: &Tree<'_>, e: EntryNumber) -> Bases
 }
 
 // The name in an entry's own attributes.
-fn own_name<'a>(entries: &NamedEntries<'_, 'a>, e: EntryNumber) -> Option<&'a [u8]>
+fn own_name<'x>(entries: &NamedEntries<'x>, e: EntryNumber) -> Option<&'x [u8]>
     requires { e < length entries.now.tree.now.entries }
 {
     let tree = entries.tree;
@@ -81,10 +81,10 @@ fn own_name<'a>(entries: &NamedEntries<'_, 'a>, e: EntryNumber) -> Option<&'a [u
 }
 
 // The name of the first typedef of an entry. Its length is spent.
-fn name_by_typedef<'a>(
-    names: &mut TypeNames<'_, 'a>,
+fn name_by_typedef<'x>(
+    names: &mut TypeNames<'x>,
     offset: DebugInfoOffset,
-) -> Result<Option<&'a [u8]>, NoMemory> {
+) -> Result<Option<&'x [u8]>, NoMemory> {
     let Some(typedef) = names.typedefs.get(&offset.get()).copied() else {
         return Ok(None);
     };
@@ -107,7 +107,7 @@ fn written(alloc: Global, keyword: &str, name: &[u8]) -> Result<Option<String>, 
 }
 
 /// Whether only a typedef can name the entry at an offset: it is a structure, a union or an enumeration without a tag.
-pub(crate) fn lacks_tag(entries: &NamedEntries<'_, '_>, offset: DebugInfoOffset) -> bool {
+pub(crate) fn lacks_tag(entries: &NamedEntries<'_>, offset: DebugInfoOffset) -> bool {
     let Some(e) = entries.tree.find(offset) else {
         return false;
     };
@@ -118,7 +118,7 @@ pub(crate) fn lacks_tag(entries: &NamedEntries<'_, '_>, offset: DebugInfoOffset)
 /// without such a name, such as pointers and arrays.
 pub(crate) fn type_name(
     alloc: Global,
-    names: &mut TypeNames<'_, '_>,
+    names: &mut TypeNames<'_>,
     offset: DebugInfoOffset,
 ) -> Result<Option<String>, NoMemory> {
     let entries = names.entries;

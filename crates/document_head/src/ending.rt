@@ -1,0 +1,45 @@
+// How a run ended.
+ghost use Rattle.std.specs.Prelude.{◌≤◌, length};
+ghost use Rattle.abi_base.specs.Limits.{input_limit};
+
+use crate::files::bytes_of;
+use commands::{File, Input, Outcome};
+use explain::name_of;
+use std::rt::Files;
+
+/// The optional members that a document has.
+#[derive(Clone, Copy)]
+pub struct Wanted {
+    /// The notes on differences that no rule judges: present if the environment variable `ABI_NOTES` is 1.
+    pub notes: bool,
+    /// The SHA-256 of the inputs: present unless the environment variable `ABI_DIGESTS` is 0.
+    pub digests: bool,
+}
+
+/// How a run ended, and what the document has besides.
+#[derive(Clone, Copy)]
+pub struct Ending<'e> {
+    /// The arguments of the command line.
+    pub words: &'e [&'e str],
+    /// How the run ended.
+    pub outcome: Outcome,
+    /// The inputs that were read, with their names.
+    pub files: &'e [File<'e>],
+    /// The text that `abi` prints, with the breaks as the JSON listener makes them.
+    pub text: &'e [u8],
+    /// The optional members of the document.
+    pub wanted: Wanted,
+}
+
+/// The bytes of an input; none if it was not read under a name, or cannot be read again.
+pub fn input_bytes<R: Files + AllocGlobal>(rt: &R, ending: &Ending<'_>, which: Input) -> Vec<u8>
+    ensures { length result.items ≤ input_limit }
+{
+    let Some(path) = name_of(ending.files, which) else {
+        return Vec::new(rt.alloc());
+    };
+    match bytes_of(rt, path) {
+        Some(bytes) => bytes,
+        None => Vec::new(rt.alloc()),
+    }
+}

@@ -1,0 +1,237 @@
+// The head of the document of a run: all members except the breaks.
+use crate::ending::{Ending, input_bytes};
+use crate::libraries::{InputFacts, input_facts, text_value};
+use crate::outcomes::{answer_word, fault_of, is_report, untyped_of};
+use crate::places::TypeFacts;
+use abi_base::NoMemory;
+use commands::{File, Input, Outcome};
+use explain::{notes_on, other_input_sentence};
+use serde_json::{Map, Value, put};
+use std::alloc::{AllocError, Global};
+use std::rt::Files;
+
+// The version of the format. It changes if a member is removed or gets another meaning.
+const FORMAT: u64 = 1;
+
+// The bytes of the input that has a fault, or none.
+fn faulty_bytes<R: Files + AllocGlobal>(rt: &R, ending: &Ending<'_>) -> Vec<u8> {
+    match ending.outcome {
+        Outcome::Unreadable(which, _) => input_bytes(rt, ending, which),
+        _ => Vec::new(rt.alloc()),
+    }
+}
+
+// The sentences beside the answer.
+fn sentences_of<R: Files + AllocGlobal>(
+    rt: &R,
+    ending: &Ending<'_>,
+) -> Result<Vec<String>, NoMemory> {
+    let Ending {
+        outcome,
+        files,
+        text,
+        ..
+    } = *ending;
+    let bytes = faulty_bytes(rt, ending);
+    let mut sentences = notes_on(rt.alloc(), outcome, files, &bytes, "reading failed")?;
+    if let Some(sentence) = other_input_sentence(rt.alloc(), files, text)? {
+        sentences.push(sentence)?;
+    }
+    Ok(sentences)
+}
+
+// Texts, as an array.
+fn texts_value(alloc: Global, texts: &[String]) -> Result<Value, AllocError> {
+    let mut list = Vec::new(alloc);
+    for text in texts {
+        list.push(Value::try_from_str(alloc, text.as_str())?)?;
+    }
+    Ok(Value::Array(list))
+}
+
+// The sentences beside the answer, as an array.
+fn sentences_value<R: Files + AllocGlobal>(rt: &R, ending: &Ending<'_>) -> Result<Value, NoMemory> {
+    let sentences = sentences_of(rt, ending)?;
+    Ok(texts_value(rt.alloc(), &sentences)?)
+}
+
+// The breaks, parsed from the text that the listener made.
+fn breaks_in(alloc: Global, text: &[u8]) -> Vec<Value> {
+    match Value::from_slice(alloc, text) {
+        Ok(Value::Array(breaks)) => breaks,
+        _ => Vec::new(alloc),
+    }
+}
+
+// The facts about the types in breaks: their positions and their names, by library.
+#[derive(Drop)]
+struct TypeMembers {
+    places: Map<String, Value>,
+    names: Map<String, Value>,
+}
+
+// The members of a document about the inputs: their objects in order, and the facts about types.
+#[derive(Drop)]
+struct InputMembers {
+    inputs: Vec<Value>,
+    types: TypeMembers,
+}
+
+// Adds the facts of a library about the types that breaks name. A rule file and a certificate have none.
+fn put_library(
+    alloc: Global,
+    members: &mut TypeMembers,
+    which: Input,
+    types: TypeFacts,
+) -> Result<(), AllocError> {
+    if which != Input::Old && which != Input::New {
+        return Ok(());
+    }
+    let TypeFacts { places, names } = types;
+    let word = which.word();
+    put(&mut members.places, alloc, word, Value::Object(places))?;
+    put(&mut members.names, alloc, word, Value::Object(names))
+}
+
+// Adds the members about an input.
+fn push_input<R: Files + AllocGlobal>(
+    rt: &R,
+    members: &mut InputMembers,
+    file: File<'_>,
+    breaks: &[Value],
+    with_digests: bool,
+) -> Result<(), NoMemory> {
+    let InputFacts { input, types } = input_facts(rt, file, breaks, with_digests)?;
+    members.inputs.push(input)?;
+    put_library(rt.alloc(), &mut members.types, file.which, types)?;
+    Ok(())
+}
+
+// The members about all inputs, by the text of the breaks.
+fn input_members<R: Files + AllocGlobal>(
+    rt: &R,
+    ending: &Ending<'_>,
+    breaks: &[u8],
+) -> Result<InputMembers, NoMemory> {
+    let alloc = rt.alloc();
+    let breaks = breaks_in(alloc, breaks);
+    let mut members = InputMembers {
+        inputs: Vec::new(alloc),
+        types: TypeMembers {
+            places: Map::new(alloc),
+            names: Map::new(alloc),
+        },
+    };
+    for file in ending.files {
+        push_input(rt, &mut members, *file, &breaks, ending.wanted.digests)?;
+    }
+    Ok(members)
+}
+
+// A map, if the answer is a report; else null.
+fn of_report(outcome: Outcome, map: Map<String, Value>) -> Value {
+    if is_report(outcome) {
+        Value::Object(map)
+    } else {
+        Value::Null
+    }
+}
+
+// The text that `abi` prints, or null if the breaks replace it.
+fn text_of(alloc: Global, outcome: Outcome, text: &[u8]) -> Result<Value, AllocError> {
+    if is_report(outcome) {
+        Ok(Value::Null)
+    } else {
+        text_value(alloc, text)
+    }
+}
+
+// Adds the format of the document, the command and how it ended.
+fn put_outcome(
+    alloc: Global,
+    head: &mut Map<String, Value>,
+    ending: &Ending<'_>,
+) -> Result<(), AllocError> {
+    let command = ending.words.first().copied().unwrap_or("");
+    let answer = answer_word(ending.outcome);
+    let status = u64::from(ending.outcome.number());
+    put(head, alloc, "format", Value::from(FORMAT))?;
+    put(head, alloc, "command", Value::try_from_str(alloc, command)?)?;
+    put(head, alloc, "answer", Value::try_from_str(alloc, answer)?)?;
+    put(head, alloc, "status", Value::from(status))
+}
+
+// Adds the fault of an input, and the number of exports without a type.
+fn put_remarks(
+    alloc: Global,
+    head: &mut Map<String, Value>,
+    outcome: Outcome,
+) -> Result<(), AllocError> {
+    put(head, alloc, "fault", fault_of(alloc, outcome)?)?;
+    put(head, alloc, "untyped", untyped_of(alloc, outcome)?)
+}
+
+// Adds the sentences beside the answer, and the notes on differences that no rule judges.
+fn put_notes<R: Files + AllocGlobal>(
+    rt: &R,
+    head: &mut Map<String, Value>,
+    ending: &Ending<'_>,
+    side_notes: Value,
+) -> Result<(), NoMemory> {
+    put(head, rt.alloc(), "notes", sentences_value(rt, ending)?)?;
+    put(head, rt.alloc(), "side_notes", side_notes)?;
+    Ok(())
+}
+
+// Adds the facts about the types in breaks.
+fn put_types(
+    alloc: Global,
+    head: &mut Map<String, Value>,
+    outcome: Outcome,
+    types: TypeMembers,
+) -> Result<(), AllocError> {
+    let TypeMembers { places, names } = types;
+    put(head, alloc, "places", of_report(outcome, places))?;
+    put(head, alloc, "types", of_report(outcome, names))
+}
+
+// Adds the objects of the inputs, and the facts about the types in breaks.
+fn put_inputs<R: Files + AllocGlobal>(
+    rt: &R,
+    head: &mut Map<String, Value>,
+    ending: &Ending<'_>,
+    breaks: &[u8],
+) -> Result<(), NoMemory> {
+    let InputMembers { inputs, types } = input_members(rt, ending, breaks)?;
+    put_types(rt.alloc(), head, ending.outcome, types)?;
+    put(head, rt.alloc(), "inputs", Value::Array(inputs))?;
+    Ok(())
+}
+
+// Adds the text that `abi` prints, unless the breaks replace it.
+fn put_text(
+    alloc: Global,
+    head: &mut Map<String, Value>,
+    ending: &Ending<'_>,
+) -> Result<(), AllocError> {
+    let text = text_of(alloc, ending.outcome, ending.text)?;
+    put(head, alloc, "text", text)
+}
+
+/// All members except the breaks, given the array of the breaks as a text, and the notes on differences that no rule judges. No clause
+/// says what the members are.
+pub fn head_of<R: Files + AllocGlobal>(
+    rt: &R,
+    ending: &Ending<'_>,
+    breaks: &[u8],
+    side_notes: Value,
+) -> Result<Value, NoMemory> {
+    let alloc = rt.alloc();
+    let mut head = Map::new(alloc);
+    put_notes(rt, &mut head, ending, side_notes)?;
+    put_inputs(rt, &mut head, ending, breaks)?;
+    put_outcome(alloc, &mut head, ending)?;
+    put_remarks(alloc, &mut head, ending.outcome)?;
+    put_text(alloc, &mut head, ending)?;
+    Ok(Value::Object(head))
+}
