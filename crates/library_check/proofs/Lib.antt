@@ -1,6 +1,7 @@
 mod AppAnswers
 mod AppLemmas
 mod Itself
+mod LimitLemmas
 mod Marked
 mod RelationLemmas
 mod RemarkLemmas

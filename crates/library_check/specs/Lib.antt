@@ -1,4 +1,5 @@
 pub mod Judgements
+pub mod Limits
 pub mod Checks
 pub mod Applications
 pub mod Remarks

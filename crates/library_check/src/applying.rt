@@ -1,15 +1,19 @@
 // Whether a new library may replace an old one for one application, given their bytes and those of a rule file.
 ghost use Rattle.std.specs.Prelude.{◌≡◌, ◌≤◌, ◌++◌, ℕ, List, [], None, length, map, All, OnOk, IfOk, IfErr, string_bytes, if◌then◌else◌};
+ghost use Rattle.abi_base.specs.declared.fault.NoMemory.TheVariants.{Allocation};
 ghost use Rattle.abi_base.specs.Limits.{input_limit};
+ghost use Rattle.abi_base.specs.Outcome.{OnLimit};
 ghost use Rattle.abi_types.specs.Plain.{plain_export, plain_exports};
-ghost use Rattle.app_check.specs.Imports.{app_fault, imports_of};
+ghost use Rattle.app_check.specs.Imports.{AppPasses as ImportsPass, app_fault, imports_of};
 ghost use Rattle.app_check.specs.Plain.{plain_imports};
 ghost use Rattle.app_check.specs.Used.{narrowed_marks};
 ghost use Rattle.cert_check.specs.Compatible.{sides};
 ghost use Rattle.pair_compare.specs.Marking.{AreMarksOf};
+ghost use Rattle.suppressions.specs.Limits.{MarksPass};
 ghost use Rattle.suppressions.specs.Marks.{marks_of};
 ghost use Rattle.library_check.specs.Applications.{AreReadableFor, IsAppJudged, IsNotJudged, IsSaidOfUsed, sides_used, use_line, use_lines, used_by, uses_text};
 ghost use Rattle.library_check.specs.Checks.{IsUnchecked};
+ghost use Rattle.library_check.specs.Limits.{AppPasses, InputsPass, OnNotJudged, OnUnchecked, UsedPass};
 ghost use Rattle.library_check.specs.Remarks.{remark_on};
 
 use crate::checking::{Inputs, Unchecked, read_inputs};
@@ -77,6 +81,7 @@ fn read_imports(alloc: Global, bytes: &[u8]) -> Result<Vec<Import<'_>>, NotJudge
     ensures readable { OnOk result (app_fault bytes.now ≡ None) }
     ensures imports { IfOk result (λ imports. plain_imports imports.items ≡ imports_of bytes.now) }
     ensures unread { IfErr result (λ u. (old new rules : List ℕ) → IsNotJudged bytes.now old new rules u) }
+    ensures past { IfErr result (λ u. OnNotJudged u (ImportsPass bytes.now)) }
 {
     match read_app(alloc, bytes) {
         Ok(imports) => Ok(imports),
@@ -87,13 +92,25 @@ fn read_imports(alloc: Global, bytes: &[u8]) -> Result<Vec<Import<'_>>, NotJudge
 
 // Why `app` gives no verdict, if the application is readable and an input that it shares with `check` is not.
 fn of_inputs(unread: Unchecked) -> NotJudged
-    ensures { (app old new rules : List ℕ) → app_fault app ≡ None → IsUnchecked old new rules unread → IsNotJudged app old new rules result }
+    ensures not_judged { (app old new rules : List ℕ) → app_fault app ≡ None → IsUnchecked old new rules unread → IsNotJudged app old new rules result }
+    ensures past { (old new rules : List ℕ) → OnUnchecked unread (InputsPass old new rules) → OnNotJudged result (InputsPass old new rules) }
 {
     match unread {
         Unchecked::Old(fault) => NotJudged::Old(fault),
         Unchecked::New(fault) => NotJudged::New(fault),
         Unchecked::Rules(fault) => NotJudged::Rules(fault),
         Unchecked::NoMemory(cause) => NotJudged::NoMemory(cause),
+    }
+}
+
+// For each old export, whether an import binds to it. It fails only where an allocation fails, as `used` does.
+fn used_of(alloc: Global, imports: &[Import], old: &Library<OldIx>) -> Result<Vec<bool>, NoMemory>
+    ensures used { IfOk result (λ used. used.items ≡ used_by (plain_imports imports.now) old.now) }
+    ensures named { IfErr result (λ e. e ≡ Allocation) }
+{
+    match used(alloc, imports, old.soname(), old.exports()) {
+        Ok(used) => Ok(used),
+        Err(_) => Err(NoMemory::Allocation),
     }
 }
 
@@ -107,9 +124,10 @@ fn marks_for(
 ) -> Result<Marks, NoMemory>
     ensures marks { IfOk result (λ marks. marks ≡ narrowed_marks (marks_of rules.now old.now) (used_by (plain_imports imports.now) old.now)) }
     ensures even { IfOk result (λ marks. AreMarksOf old.now marks) }
+    ensures past { IfErr result (λ e. OnLimit e (MarksPass rules.now old.now)) }
 {
     let marks = marks_by(alloc, rules, old)?;
-    let used = used(alloc, imports, old.soname(), old.exports())?;
+    let used = used_of(alloc, imports, old)?;
     let narrowed = narrow(alloc, &marks, &used)?;
     Ok(narrowed)
 }
@@ -150,7 +168,8 @@ fn push_uses(
 // The text of a yes: a line for each compared old export.
 fn uses(alloc: Global, old: &Library<OldIx>, marks: &Marks) -> Result<Vec<u8>, NoMemory>
     requires { AreMarksOf old.now marks.now }
-    ensures { IfOk result (λ text. (new : _) → text.items ≡ uses_text (sides old.now new marks.now)) }
+    ensures made { IfOk result (λ text. (new : _) → text.items ≡ uses_text (sides old.now new marks.now)) }
+    ensures named { IfErr result (λ e. e ≡ Allocation) }
 {
     let mut text = String::from_str(alloc, "yes app\n")?;
     push_uses(alloc, &mut text, old.exports(), marks.exports.as_slice())?;
@@ -158,6 +177,7 @@ fn uses(alloc: Global, old: &Library<OldIx>, marks: &Marks) -> Result<Vec<u8>, N
 }
 
 // What `app` says about imports, two libraries and a rule file after they are read.
+#[tactic(auto, using(crate::proofs::LimitLemmas::marks_used, crate::proofs::LimitLemmas::comparison_used))]
 fn judge_used(
     alloc: Global,
     imports: &[Import],
@@ -165,7 +185,8 @@ fn judge_used(
     listeners: Vec<Box<dyn Listener>>,
 ) -> Result<AppJudged, NoMemory>
     requires { All (λ listener. heard listener ≡ []) listeners.items }
-    ensures { IfOk result (IsSaidOfUsed (map voice listeners.items) (sides_used (plain_imports imports.now) inputs.now.pair.old inputs.now.pair.new inputs.now.rules)) }
+    ensures said { IfOk result (IsSaidOfUsed (map voice listeners.items) (sides_used (plain_imports imports.now) inputs.now.pair.old inputs.now.pair.new inputs.now.rules)) }
+    ensures past { IfErr result (λ e. OnLimit e (UsedPass (plain_imports imports.now) inputs.now.pair.old inputs.now.pair.new inputs.now.rules)) }
 {
     let old = &inputs.pair.old;
     let new = &inputs.pair.new;
@@ -179,6 +200,7 @@ fn judge_used(
 /// Whether a new library may replace an old one for one application, in all that a rule file does not suppress, given their bytes:
 /// yes with the exports that the application uses, or no with the texts that listeners make of every break of these. A fault is
 /// that of the first input that has one, in the order app, old, new, rules.
+#[tactic(auto, using(crate::proofs::LimitLemmas::imports_pass, crate::proofs::LimitLemmas::inputs_pass_for, crate::proofs::LimitLemmas::used_pass))]
 pub fn app(
     alloc: Global,
     files: &AppFiles,
@@ -192,6 +214,7 @@ pub fn app(
     ensures judged { IfOk result (λ said. IsAppJudged (map voice listeners.items) files.now.app.now files.now.old.now files.now.new.now files.now.rules.now said.judged) }
     ensures remark { IfOk result (λ said. said.remark ≡ remark_on files.now.old.now files.now.new.now) }
     ensures not_judged { IfErr result (IsNotJudged files.now.app.now files.now.old.now files.now.new.now files.now.rules.now) }
+    ensures past { IfErr result (λ u. OnNotJudged u (AppPasses files.now.app.now files.now.old.now files.now.new.now files.now.rules.now)) }
 {
     let imports = match read_imports(alloc, files.app) {
         Ok(imports) => imports,

@@ -3,9 +3,12 @@ ghost use Rattle.std.specs.Prelude.{◌≡◌, ◌≤◌, ℕ, List, [], None, l
 ghost use Rattle.abi_base.specs.Limits.{input_limit};
 ghost use Rattle.library_read.specs.Faults.{library_fault};
 ghost use Rattle.library_read.specs.Libraries.{library_of};
+ghost use Rattle.library_read.specs.Limits.{LibraryPasses};
+ghost use Rattle.suppression_text.specs.Classes.{PassesClasses};
 ghost use Rattle.suppression_text.specs.Faults.{rule_fault};
 ghost use Rattle.suppression_text.specs.Rules.{rules_of};
 ghost use Rattle.library_check.specs.Checks.{AreReadable, IsChecked, IsUnchecked};
+ghost use Rattle.library_check.specs.Limits.{CheckPasses, InputsPass, OnUnchecked, PairPasses};
 ghost use Rattle.library_check.specs.Relations.{PrintsSuchRelation};
 ghost use Rattle.library_check.specs.Remarks.{remark_on};
 
@@ -66,6 +69,7 @@ fn read_old(alloc: Global, bytes: &[u8]) -> Result<Library<'_, OldIx>, Unchecked
     ensures readable { OnOk result (library_fault bytes.now ≡ None) }
     ensures library { IfOk result (λ library. library ≡ library_of bytes.now) }
     ensures unread { IfErr result (λ u. (new rules : List ℕ) → IsUnchecked bytes.now new rules u) }
+    ensures past { IfErr result (λ u. OnUnchecked u (LibraryPasses bytes.now)) }
 {
     match read_library(alloc, bytes) {
         Ok(library) => Ok(library),
@@ -80,6 +84,7 @@ fn read_new(alloc: Global, bytes: &[u8]) -> Result<Library<'_, NewIx>, Unchecked
     ensures readable { OnOk result (library_fault bytes.now ≡ None) }
     ensures library { IfOk result (λ library. library ≡ library_of bytes.now) }
     ensures unread { IfErr result (λ u. (old rules : List ℕ) → library_fault old ≡ None → IsUnchecked old bytes.now rules u) }
+    ensures past { IfErr result (λ u. OnUnchecked u (LibraryPasses bytes.now)) }
 {
     match read_library(alloc, bytes) {
         Ok(library) => Ok(library),
@@ -118,6 +123,7 @@ fn read_beside<'a>(
     ensures readable { OnOk result (library_fault new.now ≡ None) }
     ensures library { IfOk result (λ library. library ≡ library_of new.now) }
     ensures unread { IfErr result (λ u. (rules : List ℕ) → IsUnchecked old.now new.now rules u) }
+    ensures past { IfErr result (λ u. OnUnchecked u (LibraryPasses new.now)) }
 {
     if old != new || !is_copied(library) {
         return read_new(alloc, new);
@@ -130,6 +136,7 @@ fn read_beside<'a>(
 
 /// Reads the old and the new library. A fault of the old one is reported before one of the new one; a rule file makes no
 /// difference.
+#[tactic(auto, using(crate::proofs::LimitLemmas::old_passes, crate::proofs::LimitLemmas::new_passes))]
 pub fn read_pair<'a>(alloc: Global, old: &'a [u8], new: &'a [u8]) -> Result<Pair<'a>, Unchecked>
     requires old_short { length old.now ≤ input_limit }
     requires new_short { length new.now ≤ input_limit }
@@ -138,6 +145,7 @@ pub fn read_pair<'a>(alloc: Global, old: &'a [u8], new: &'a [u8]) -> Result<Pair
     ensures old { IfOk result (λ pair. pair.old ≡ library_of old.now) }
     ensures new { IfOk result (λ pair. pair.new ≡ library_of new.now) }
     ensures unread { IfErr result (λ u. (rules : List ℕ) → IsUnchecked old.now new.now rules u) }
+    ensures past { IfErr result (λ u. OnUnchecked u (PairPasses old.now new.now)) }
 {
     let old_library = match read_old(alloc, old) {
         Ok(library) => library,
@@ -158,6 +166,7 @@ fn read_rule_file(alloc: Global, bytes: &[u8]) -> Result<Rules, Unchecked>
     ensures readable { OnOk result (rule_fault bytes.now ≡ None) }
     ensures rules { IfOk result (λ rules. rules ≡ rules_of bytes.now) }
     ensures unread { IfErr result (λ u. (old new : List ℕ) → library_fault old ≡ None → library_fault new ≡ None → IsUnchecked old new bytes.now u) }
+    ensures past { IfErr result (λ u. OnUnchecked u (PassesClasses bytes.now)) }
 {
     match read_rules(alloc, bytes) {
         Ok(rules) => Ok(rules),
@@ -179,6 +188,7 @@ pub(crate) fn no_rules(alloc: Global) -> Result<Rules, NoMemory>
 }
 
 // Reads both libraries and the rule file, in this order.
+#[tactic(auto, using(crate::proofs::LimitLemmas::pair_passes, crate::proofs::LimitLemmas::rules_pass))]
 pub(crate) fn read_inputs<'a>(
     alloc: Global,
     old: &'a [u8],
@@ -192,6 +202,7 @@ pub(crate) fn read_inputs<'a>(
     ensures new { IfOk result (λ inputs. inputs.pair.new ≡ library_of new.now) }
     ensures rules { IfOk result (λ inputs. inputs.rules ≡ rules_of rules.now) }
     ensures unread { IfErr result (IsUnchecked old.now new.now rules.now) }
+    ensures past { IfErr result (λ u. OnUnchecked u (InputsPass old.now new.now rules.now)) }
 {
     let pair = match read_pair(alloc, old, new) {
         Ok(pair) => pair,
@@ -207,6 +218,7 @@ pub(crate) fn read_inputs<'a>(
 /// Whether a new library may replace an old one in all that a rule file does not suppress, given their bytes: yes with the
 /// certificate, or no with the texts that listeners make of every break. A fault is that of the first input that has one, in the
 /// order old, new, rules.
+#[tactic(auto, using(crate::proofs::LimitLemmas::inputs_pass, crate::proofs::LimitLemmas::judgement_passes))]
 pub fn check(
     alloc: Global,
     old: &[u8],
@@ -222,6 +234,7 @@ pub fn check(
     ensures relation { IfOk result (λ said. PrintsSuchRelation old.now new.now rules.now said.checked) }
     ensures remark { IfOk result (λ said. said.remark ≡ remark_on old.now new.now) }
     ensures unchecked { IfErr result (IsUnchecked old.now new.now rules.now) }
+    ensures past { IfErr result (λ u. OnUnchecked u (CheckPasses old.now new.now rules.now)) }
 {
     an_accepted_certificate_tells_such_a_relation();
     let inputs = match read_inputs(alloc, old, new, rules) {

@@ -1,14 +1,20 @@
 // What is said about two libraries after they are read.
-ghost use Rattle.std.specs.Prelude.{◌≡◌, ◌<◌, [], map, All, IfOk};
+ghost use Rattle.std.specs.Prelude.{◌≡◌, ◌<◌, [], map, All, IfErr, IfOk};
+ghost use Rattle.abi_base.specs.declared.fault.NoMemory.TheVariants.{Allocation};
+ghost use Rattle.abi_base.specs.Outcome.{OnLimit};
 ghost use Rattle.cert_check.specs.Compatible.{sides};
+ghost use Rattle.cert_text.specs.Grammar.{IsSpelled};
 ghost use Rattle.pair_compare.specs.Judged.{IsRight};
+ghost use Rattle.pair_compare.specs.Limits.{ComparisonPasses};
 ghost use Rattle.pair_compare.specs.Marking.{AreMarksOf};
+ghost use Rattle.suppressions.specs.Limits.{MarksPass};
 ghost use Rattle.suppressions.specs.Marks.{marks_of};
 ghost use Rattle.library_check.specs.Judgements.{IsJudged, IsReport};
+ghost use Rattle.library_check.specs.Limits.{JudgementPasses};
 
 use abi_base::NoMemory;
 use abi_types::{Library, Marks, NewIx, OldIx};
-use cert_text::write_cert;
+use cert_text::{Cert, write_cert};
 use pair_compare::{Comparison, compare};
 use pair_rules::Steps;
 use report::{Listener, Row, tell_all};
@@ -35,6 +41,7 @@ pub(crate) fn marks_by(
 ) -> Result<Marks, NoMemory>
     ensures marks { IfOk result (λ marks. marks ≡ marks_of rules.now old.now) }
     ensures even { IfOk result (λ marks. AreMarksOf old.now marks) }
+    ensures past { IfErr result (λ e. OnLimit e (MarksPass rules.now old.now)) }
 {
     marks(alloc, rules, old)
 }
@@ -46,7 +53,8 @@ pub(crate) fn report(
     rows: &[Row],
 ) -> Result<Vec<u8>, NoMemory>
     requires { All (λ listener. heard listener ≡ []) listeners.items }
-    ensures { IfOk result (λ text. IsReport (map voice listeners.items) rows.now text.items) }
+    ensures told { IfOk result (λ text. IsReport (map voice listeners.items) rows.now text.items) }
+    ensures named { IfErr result (λ e. e ≡ Allocation) }
 {
     let mut text = Vec::new(alloc);
     text.extend_from_slice(b"no\n")?;
@@ -66,14 +74,27 @@ pub(crate) fn compared<L: Ledger>(
     requires parts { blank.parts ≡ L.parts }
     requires some { 0 < blank.parts }
     requires marks { AreMarksOf old.now marks.now }
-    ensures { IfOk result (IsRight (sides old.now new.now marks.now)) }
+    ensures right { IfOk result (IsRight (sides old.now new.now marks.now)) }
+    ensures past { IfErr result (λ e. OnLimit e (ComparisonPasses (sides old.now new.now marks.now))) }
 {
     let mut steps = Steps::<L>::new(blank);
     compare(alloc, old, new, marks, &mut steps)
 }
 
+// The text of a certificate. It fails only where an allocation fails, as writing a certificate does.
+fn certificate_text(alloc: Global, cert: &Cert) -> Result<Vec<u8>, NoMemory>
+    ensures spelled { IfOk result (λ text. IsSpelled text.items cert.now) }
+    ensures named { IfErr result (λ e. e ≡ Allocation) }
+{
+    match write_cert(alloc, cert) {
+        Ok(text) => Ok(text),
+        Err(_) => Err(NoMemory::Allocation),
+    }
+}
+
 /// What `check` says about two libraries and a rule file after they are read: yes with the certificate, or no with the texts that
-/// listeners make of every break. It fails only if memory runs out.
+/// listeners make of every break. It fails only if memory runs out, or if a limit on the rule file or on the comparison is passed.
+#[tactic(auto, using(crate::proofs::LimitLemmas::marks_pass, crate::proofs::LimitLemmas::comparison_passes))]
 pub fn judge(
     alloc: Global,
     old: &Library<OldIx>,
@@ -82,11 +103,12 @@ pub fn judge(
     listeners: Vec<Box<dyn Listener>>,
 ) -> Result<Checked, NoMemory>
     requires { All (λ listener. heard listener ≡ []) listeners.items }
-    ensures { IfOk result (IsJudged (map voice listeners.items) old.now new.now rules.now) }
+    ensures judged { IfOk result (IsJudged (map voice listeners.items) old.now new.now rules.now) }
+    ensures past { IfErr result (λ e. OnLimit e (JudgementPasses old.now new.now rules.now)) }
 {
     let marks = marks_by(alloc, rules, old)?;
     match compared::<Brand>(alloc, Blank::new(1), old, new, &marks)? {
-        Comparison::Compatible(cert) => Ok(Checked::Yes(write_cert(alloc, &cert)?)),
+        Comparison::Compatible(cert) => Ok(Checked::Yes(certificate_text(alloc, &cert)?)),
         Comparison::Broken(rows) => Ok(Checked::No(report(alloc, listeners, rows.as_slice())?)),
     }
 }

@@ -1,9 +1,11 @@
 // Whether a certificate proves that a new library may replace an old one, given their bytes and those of a rule file.
 ghost use Rattle.std.specs.Prelude.{◌≡◌, ◌≤◌, ℕ, List, None, length, OnOk, IfOk, IfErr};
 ghost use Rattle.abi_base.specs.Limits.{input_limit};
+ghost use Rattle.abi_base.specs.Outcome.{OnLimit};
 ghost use Rattle.cert_text.specs.Grammar.{IsSpelled};
 ghost use Rattle.library_check.specs.Checks.{AreReadable, IsUnchecked};
 ghost use Rattle.library_check.specs.Judgements.{ruled};
+ghost use Rattle.library_check.specs.Limits.{InputsPass, OnUnchecked, OnUnverified, SettlementPasses, VerifyPasses};
 ghost use Rattle.library_check.specs.Migrations.{IsUnmigrated};
 ghost use Rattle.library_check.specs.Relations.{AcceptsSuchRelation};
 ghost use Rattle.library_check.specs.Verifications.{AreVerifiable, IsSettled, IsUnverified, IsVerified, case_for, certificate_fault};
@@ -47,6 +49,7 @@ pub enum Unverified {
 pub(crate) fn of_inputs(unread: Unchecked) -> Unverified
     ensures unverified { (old new rules certificate : List ℕ) → IsUnchecked old new rules unread → IsUnverified old new rules certificate result }
     ensures unmigrated { (old new rules certificate : List ℕ) → IsUnchecked old new rules unread → IsUnmigrated old new rules certificate result }
+    ensures past { (old new rules : List ℕ) → OnUnchecked unread (InputsPass old new rules) → OnUnverified result (InputsPass old new rules) }
 {
     match unread {
         Unchecked::Old(fault) => Unverified::Old(fault),
@@ -56,20 +59,22 @@ pub(crate) fn of_inputs(unread: Unchecked) -> Unverified
     }
 }
 
-// Reads the certificate, if all other inputs are readable.
+// Reads the certificate, if all other inputs are readable. It passes no limit: memory runs out only where an allocation fails.
 fn read_certificate(alloc: Global, bytes: &[u8]) -> Result<Cert, Unverified>
     ensures readable { OnOk result (certificate_fault bytes.now ≡ None) }
     ensures spelled { IfOk result (λ cert. IsSpelled bytes.now cert) }
     ensures unread { IfErr result (λ u. (old new rules : List ℕ) → AreReadable old new rules → IsUnverified old new rules bytes.now u) }
+    ensures named { IfErr result (λ u. OnUnverified u (λ l. ⊥)) }
 {
     match read_cert(alloc, bytes) {
         Ok(cert) => Ok(cert),
         Err(Refusal::Fault(fault)) => Err(Unverified::Certificate(fault)),
-        Err(Refusal::NoMemory(cause)) => Err(Unverified::NoMemory(cause)),
+        Err(Refusal::NoMemory(_)) => Err(Unverified::NoMemory(NoMemory::Allocation)),
     }
 }
 
 /// What is said about a certificate for two libraries and a rule file after they are read.
+#[tactic(auto, using(crate::proofs::LimitLemmas::marks_settle, crate::proofs::LimitLemmas::lines_settle))]
 pub(crate) fn settle(
     alloc: Global,
     old: &Library<OldIx>,
@@ -77,7 +82,8 @@ pub(crate) fn settle(
     rules: &Rules,
     cert: &Cert,
 ) -> Result<Verified, NoMemory>
-    ensures { IfOk result (IsSettled (case_for (ruled old.now new.now rules.now) cert.now)) }
+    ensures settled { IfOk result (IsSettled (case_for (ruled old.now new.now rules.now) cert.now)) }
+    ensures past { IfErr result (λ e. OnLimit e (SettlementPasses old.now new.now rules.now cert.now)) }
 {
     an_accepted_certificate_is_a_proof();
     old.known();
@@ -93,6 +99,7 @@ pub(crate) fn settle(
 
 /// Whether a certificate proves that a new library may replace an old one in all that a rule file does not suppress, given their
 /// bytes. A fault is that of the first input that has one, in the order old, new, rules, certificate.
+#[tactic(auto, using(crate::proofs::LimitLemmas::inputs_verify, crate::proofs::LimitLemmas::nothing_verifies, crate::proofs::LimitLemmas::settlement_verifies))]
 pub fn verify(
     alloc: Global,
     old: &[u8],
@@ -106,6 +113,7 @@ pub fn verify(
     ensures verified { IfOk result (IsVerified old.now new.now rules.now certificate.now) }
     ensures relation { IfOk result (AcceptsSuchRelation old.now new.now rules.now certificate.now) }
     ensures unverified { IfErr result (IsUnverified old.now new.now rules.now certificate.now) }
+    ensures past { IfErr result (λ u. OnUnverified u (VerifyPasses old.now new.now rules.now certificate.now)) }
 {
     an_accepted_certificate_tells_such_a_relation();
     let inputs = match read_inputs(alloc, old, new, rules) {

@@ -1,3 +1,4 @@
 mod LayoutLemmas
 mod MemberLemmas
 mod NearLemmas
+mod LimitLemmas

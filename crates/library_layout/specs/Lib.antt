@@ -1,4 +1,5 @@
 pub mod Covers
 pub mod Layouts
+pub mod Limits
 pub mod Near
 pub mod Structures

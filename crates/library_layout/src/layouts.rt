@@ -1,13 +1,15 @@
 // The layout of a structure in a graph.
-ghost use Rattle.std.specs.Prelude.{◌≡◌, ◌<◌, ◌↔◌, length, IfErr, IfOk, IsTrue};
-ghost use Rattle.abi_base.specs.declared.fault.NoMemory.TheVariants.{Past};
-ghost use Rattle.abi_base.specs.declared.limit.Limit.TheVariants.{Listing};
+ghost use Rattle.std.specs.Prelude.{◌≡◌, ◌<◌, ◌^◌, ◌↔◌, length, IfErr, IfOk, IsTrue};
+ghost use Rattle.abi_base.specs.declared.fault.NoMemory.TheVariants.{Allocation};
+ghost use Rattle.abi_base.specs.Outcome.{OnLimit};
+ghost use Rattle.abi_types.specs.Parts.{plain_part};
 ghost use Rattle.type_print.specs.Structures.{IsFirstTagged};
 ghost use Rattle.type_print.specs.Structures as structures_spec;
+ghost use Rattle.library_layout.specs.Limits.{LettersPass, TagPasses, member_letters};
 ghost use Rattle.library_layout.specs.Structures.{IsDeclaredIn, IsLaidIn, IsLayoutIn};
 ghost use Rattle.library_layout.specs.Structures as structures;
 
-use abi_base::{Limit, NoMemory, taken};
+use abi_base::{Budget, Limit, NoMemory};
 use abi_types::{Graph, Index, Kind, Part, View};
 use std::alloc::Global;
 use type_print::{find_tag, layout, layout_lines};
@@ -21,61 +23,86 @@ pub enum Layout {
     NoTag,
 }
 
-// How many letters of names a layout may print for each byte of the file, and how many more. The text has at most twelve bytes for
-// each letter: four for each one, in a line of a member, of an overlap and of what lies outside.
-const LETTERS_A_BYTE: usize = 2;
-
-const LETTERS_AT_LEAST: usize = 4_194_304;
-
-/// The most letters of names that a layout of a file with this many bytes may print.
-pub(crate) fn most_letters(bytes: usize) -> usize {
-    bytes
-        .saturating_mul(LETTERS_A_BYTE)
-        .saturating_add(LETTERS_AT_LEAST)
+// How many letters the name of a member has.
+fn letters_of<Ix: Index>(part: &Part<Ix>) -> usize
+    ensures { result ≡ member_letters (plain_part Ix.number_of part.now) }
+{
+    match part {
+        Part::Member { name, .. } => name.len(),
+        Part::Enumerator { .. }
+        | Part::Target { .. }
+        | Part::Element { .. }
+        | Part::Outcome { .. }
+        | Part::Param { .. } => 0,
+    }
 }
 
-// Fails where the names of a structure's members have more letters than a layout may print.
-fn ask_letters<Ix: Index>(view: &View<Ix>, most: usize) -> Result<(), NoMemory>
-    ensures { IfErr result (λ e. e ≡ Past Listing) }
+// Fails where the names of a structure's members have more letters than a layout of a file with this many bytes may print. Its text
+// has at most twelve bytes for each letter: four for each one, in a line of a member, of an overlap and of what lies outside.
+fn ask_letters<Ix: Index>(view: &View<Ix>, bytes: usize) -> Result<(), NoMemory>
+    requires { bytes < 2 ^ 38 }
+    ensures { IfErr result (λ e. OnLimit e (LettersPass view.now.parts bytes)) }
 {
-    let mut left = most;
+    let mut budget = Budget::of(Limit::LayoutNames, bytes);
     for k in 0..view.parts_len() {
-        if let Part::Member { name, .. } = view.part(k) {
-            left = taken(Limit::Listing, left, name.len())?;
-        }
+        budget.take(letters_of(view.part(k)))?;
     }
     Ok(())
 }
 
+// The rows of a node's structure, and their lines. It fails only where an allocation fails.
+fn text_at<Ix: Index>(
+    alloc: Global,
+    graph: &Graph<Ix>,
+    tag: &[u8],
+    ix: Ix,
+) -> Result<Vec<u8>, NoMemory>
+    requires { IsFirstTagged graph.now tag.now (Ix.number_of ix) }
+    ensures laid { IfOk result (λ text. IsLayoutIn graph.now tag.now text.items) }
+    ensures named { IfErr result (λ e. e ≡ Allocation) }
+{
+    let Ok(rows) = layout(alloc, graph, ix) else {
+        return Err(NoMemory::Allocation);
+    };
+    let Ok(text) = layout_lines(alloc, graph.view(ix), rows.as_slice()) else {
+        return Err(NoMemory::Allocation);
+    };
+    Ok(text.into_bytes())
+}
+
 // The lines of the layout of a node's structure.
+#[tactic(auto, using(crate::proofs::LimitLemmas::tag_passes))]
 fn lines_at<Ix: Index>(
     alloc: Global,
     graph: &Graph<Ix>,
     tag: &[u8],
     ix: Ix,
-    most: usize,
+    bytes: usize,
 ) -> Result<Vec<u8>, NoMemory>
-    requires { IsFirstTagged graph.now tag.now (Ix.number_of ix) }
-    ensures { IfOk result (λ text. IsLayoutIn graph.now tag.now text.items) }
+    requires tagged { IsFirstTagged graph.now tag.now (Ix.number_of ix) }
+    requires small { bytes < 2 ^ 38 }
+    ensures laid { IfOk result (λ text. IsLayoutIn graph.now tag.now text.items) }
+    ensures past { IfErr result (λ e. OnLimit e (TagPasses graph.now tag.now bytes)) }
 {
-    ask_letters(graph.view(ix), most)?;
-    let rows = layout(alloc, graph, ix)?;
-    let text = layout_lines(alloc, graph.view(ix), rows.as_slice())?;
-    Ok(text.into_bytes())
+    ask_letters(graph.view(ix), bytes)?;
+    text_at(alloc, graph, tag, ix)
 }
 
-/// The layout of the structure with the tag in a graph, if the names of its members have no more letters than `most`.
+/// The layout of the structure with the tag in a graph, if the names of its members have no more letters than a layout of a file with
+/// this many bytes may print.
 pub(crate) fn laid_in<Ix: Index>(
     alloc: Global,
     graph: &Graph<Ix>,
     tag: &[u8],
-    most: usize,
+    bytes: usize,
 ) -> Result<Layout, NoMemory>
-    ensures { IfOk result (IsLaidIn graph.now tag.now) }
+    requires { bytes < 2 ^ 38 }
+    ensures laid { IfOk result (IsLaidIn graph.now tag.now) }
+    ensures past { IfErr result (λ e. OnLimit e (TagPasses graph.now tag.now bytes)) }
 {
     match find_tag(graph, tag) {
         Some(ix) => {
-            let text = lines_at(alloc, graph, tag, ix, most)?;
+            let text = lines_at(alloc, graph, tag, ix, bytes)?;
             Ok(Layout::Lines(text))
         }
         None => Ok(Layout::NoTag),

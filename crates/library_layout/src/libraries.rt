@@ -3,12 +3,14 @@ ghost use Rattle.std.specs.Prelude.{◌≡◌, ◌≤◌, ◌↔◌, length, Non
 ghost use Rattle.abi_base.specs.Limits.{input_limit};
 ghost use Rattle.library_read.specs.Faults.{library_fault};
 ghost use Rattle.library_read.specs.Libraries.{library_of};
+ghost use Rattle.library_read.specs.Limits.{LibraryPasses};
 ghost use Rattle.library_layout.specs.Covers.{LaysEachBit};
 ghost use Rattle.library_layout.specs.Layouts.{IsLaid, IsUnlaid};
+ghost use Rattle.library_layout.specs.Limits.{LayoutPasses, OnNoLayout};
 ghost use Rattle.library_layout.specs.Near.{AreNearTags, IsDeclaredTag, IsOtherTag};
 
 use crate::laws::a_layout_covers_each_bit;
-use crate::layouts::{Layout, is_declared, laid_in, most_letters};
+use crate::layouts::{Layout, is_declared, laid_in};
 use crate::near::near_in;
 use crate::others::{OtherTag, other_in};
 use abi_base::{Fault, NoMemory, Refusal};
@@ -42,6 +44,7 @@ fn read(alloc: Global, bytes: &[u8]) -> Result<Library<'_, OldIx>, NoLayout>
     ensures readable { OnOk result (library_fault bytes.now ≡ None) }
     ensures library { IfOk result (λ library. library ≡ library_of bytes.now) }
     ensures unreadable { IfErr result (IsUnlaid bytes.now) }
+    ensures past { IfErr result (λ u. OnNoLayout u (LibraryPasses bytes.now)) }
 {
     match read_library(alloc, bytes) {
         Ok(library) => Ok(library),
@@ -53,24 +56,21 @@ fn read(alloc: Global, bytes: &[u8]) -> Result<Library<'_, OldIx>, NoLayout>
 /// The layout of the structure with a tag that the exports of the library reach: its members and, if none overlap and none ends
 /// outside, the holes between them and the padding after them; otherwise the overlaps and the members that end outside. If several
 /// structures have the tag, the one with the earliest entry counts. Err means that the library is unreadable or memory ran out.
+#[tactic(auto, using(crate::proofs::LimitLemmas::reading_passes, crate::proofs::LimitLemmas::tag_passes_in))]
 pub fn layout_of(alloc: Global, library: &[u8], tag: &str) -> Result<Layout, NoLayout>
     requires short { length library.now ≤ input_limit }
     ensures readable { OnOk result (library_fault library.now ≡ None) }
     ensures laid { IfOk result (IsLaid library.now tag.now) }
     ensures covered { IfOk result (LaysEachBit library.now tag.now) }
     ensures unreadable { IfErr result (IsUnlaid library.now) }
+    ensures past { IfErr result (λ u. OnNoLayout u (LayoutPasses library.now tag.now)) }
 {
     a_layout_covers_each_bit();
     let types = match read(alloc, library) {
         Ok(types) => types,
         Err(unread) => return Err(unread),
     };
-    match laid_in(
-        alloc,
-        types.graph(),
-        tag.as_bytes(),
-        most_letters(library.len()),
-    ) {
+    match laid_in(alloc, types.graph(), tag.as_bytes(), library.len()) {
         Ok(layout) => Ok(layout),
         Err(cause) => Err(NoLayout::NoMemory(cause)),
     }

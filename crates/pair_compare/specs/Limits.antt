@@ -1,18 +1,23 @@
--- When a report passes its limit.
+-- When a comparison of two libraries passes a limit.
 use Rattle.std.specs.Prelude.{◌≡◌, ◌<◌, ◌+◌, ◌-◌, ◌^◌, ◌⊎◌, ℕ, List, length, min}
 use Rattle.std.specs.List.{sum_by}
 use Rattle.sha2.specs.Sha256.{sha256}
+use Rattle.abi_base.specs.declared.limit.Limit.{Limit}
 use Rattle.abi_base.specs.declared.limit.Limit.TheVariants as limit
 use Rattle.abi_base.specs.Budgets.{BudgetState, allowed, fresh}
 use Rattle.pair_rules.specs.declared.rules.Broken.{Broken}
 use Rattle.pair_rules.specs.Steps.{Task}
 use Rattle.pair_explorer.specs.declared.visits.Visit.{Visit}
+use Rattle.pair_explorer.specs.Limits.{ExplorationPasses}
+use Rattle.pair_explorer.specs.Scopes.{Scope}
 use Rattle.report.specs.declared.row.Row.{Row}
 use Rattle.report.specs.Values.{text_of}
 use Rattle.cert_check.specs.Compatible.{Sides, task_of}
 use Rattle.pair_compare.specs.reports.Findings.{Finding, detail_at}
 use Rattle.pair_compare.specs.reports.Reports.{IsRightReport}
-use Rattle.pair_compare.specs.reports.TypeFindings.{IsExplored, finding_of}
+use Rattle.pair_compare.specs.reports.TypeFindings.{IsCoarse, IsExplored, finding_of}
+
+-- ---- a report
 
 -- how many bytes the rows of a report on two files may have
 abbrev pub report_units : List ℕ → List ℕ → ℕ
@@ -58,3 +63,24 @@ pub record ReportPasses (s : Sides) : Type 0 where
   pub old_is : s.old.digest ≡ sha256 old
   pub new_is : s.new.digest ≡ sha256 new
   pub more : RowsCountMore s (allowed limit.Report (report_units old new)) ⊎ DetailsCountMore s (allowed limit.Report (report_units old new))
+
+-- ---- a comparison
+
+-- an exploration of the types over the classes of alike ones passes the limit
+pub record TypesPass (s : Sides) (l : Limit) : Type 0 where
+  pub scope : Scope
+  pub is : scope.task ≡ task_of s
+  pub coarse : IsCoarse scope
+  pub passed : ExplorationPasses scope l
+
+-- The limit is passed where the types are explored, or where something is made of the comparison, which passes these limits.
+abbrev pub ViewPasses : (Sides → Limit → Type 0) → Sides → Limit → Type 0
+ViewPasses made s l = TypesPass s l ⊎ made s l
+
+-- the limit is that on the bytes of a report, and the report passes it
+abbrev pub VerdictPasses : Sides → Limit → Type 0
+VerdictPasses s l = (l ≡ limit.Report) × ReportPasses s
+
+-- The limit that two libraries pass where they are compared: one on pairs of their types, or the one on the report.
+abbrev pub ComparisonPasses : Sides → Limit → Type 0
+ComparisonPasses = ViewPasses VerdictPasses

@@ -1,5 +1,6 @@
 // The comparison of two libraries.
 ghost use Rattle.std.specs.Prelude.{◌≡◌, ◌≤◌, ◌+◌, IfOk, IfErr};
+ghost use Rattle.abi_base.specs.declared.limit.Limit.{Limit as AnyLimit};
 ghost use Rattle.abi_base.specs.declared.limit.Limit.TheVariants.{Report};
 ghost use Rattle.abi_base.specs.Outcome.{OnLimit};
 ghost use Rattle.pair_explorer.specs.GraphPairs.{scope_of};
@@ -10,7 +11,7 @@ ghost use Rattle.pair_compare.specs.Explored.{most_steps};
 ghost use Rattle.pair_compare.specs.Explored as explored_spec;
 ghost use Rattle.pair_compare.specs.Marking.{AreMarksOf};
 ghost use Rattle.pair_compare.specs.Judged.{IsFitting, IsRight};
-ghost use Rattle.pair_compare.specs.Limits.{ReportPasses};
+ghost use Rattle.pair_compare.specs.Limits.{ComparisonPasses, ReportPasses, VerdictPasses, ViewPasses};
 ghost use Rattle.pair_compare.specs.reports.TypeFindings.{IsCoarse};
 
 use crate::bound_pair::BoundPair;
@@ -41,13 +42,18 @@ pub trait View {
     /// Whether this is what it shows of two libraries with marks.
     ghost shows: { Self → Sides → Self.Shown → Type 0 };
 
+    /// Which limits are passed where it shows two libraries with marks.
+    ghost passes: { Self → Sides → AnyLimit → Type 0 };
+
     /// What it shows of a comparison. It compares nothing again.
     fn view(&self, alloc: Global, compared: &Compared) -> Result<Self::Shown, NoMemory>
         requires { IsComparison compared.now }
-        ensures { IfOk result (shows self.now (sides_in compared.now)) };
+        ensures shown { IfOk result (shows self.now (sides_in compared.now)) }
+        ensures past { IfErr result (λ e. OnLimit e (passes self.now (sides_in compared.now))) };
 }
 
 // What a view shows of two libraries, by graphs, roots and classes that are theirs.
+#[tactic(auto, using(crate::proofs::Passing::types_pass, crate::proofs::Passing::view_passes))]
 fn viewed<'x, 'o, 'n, 'og, 'oc, 'ng, 'nc, V: View, L: Ledger>(
     alloc: Global,
     pair: &'x BoundPair<'x, 'o, 'n>,
@@ -61,6 +67,7 @@ fn viewed<'x, 'o, 'n, 'og, 'oc, 'ng, 'nc, V: View, L: Ledger>(
     requires coarse { IsCoarse (scope_of graphs.now) }
     ensures shown { IfOk result (V.shows view.now (sides_of pair.now)) }
     ensures bound { steps.new ≤ steps.old + most_steps (sides_of pair.now) }
+    ensures past { IfErr result (λ e. OnLimit e (ViewPasses (V.passes view.now) (sides_of pair.now))) }
 {
     let explored = explore(alloc, graphs, steps)?;
     let compared = Compared {
@@ -84,6 +91,7 @@ fn viewed_from<'x, 'o, 'n, V: View, L: Ledger>(
     requires roots { roots.now ≡ typed_roots (sides_of pair.now) }
     ensures shown { IfOk result (V.shows view.now (sides_of pair.now)) }
     ensures bound { steps.new ≤ steps.old + most_steps (sides_of pair.now) }
+    ensures past { IfErr result (λ e. OnLimit e (ViewPasses (V.passes view.now) (sides_of pair.now))) }
 {
     typed_pairs_can_be_explored();
     let old_graph = pair.old.graph();
@@ -116,6 +124,7 @@ fn viewed_of<'x, 'o, 'n, V: View, L: Ledger>(
     requires marks { AreMarksOf pair.now.old.now pair.now.marks.now }
     ensures shown { IfOk result (V.shows view.now (sides_of pair.now)) }
     ensures bound { steps.new ≤ steps.old + most_steps (sides_of pair.now) }
+    ensures past { IfErr result (λ e. OnLimit e (ViewPasses (V.passes view.now) (sides_of pair.now))) }
 {
     let roots = roots(alloc, pair)?;
     viewed_from(alloc, pair, roots.as_slice(), view, steps)
@@ -135,6 +144,7 @@ pub fn compare_by<V: View, L: Ledger>(
     requires { AreMarksOf old.now marks.now }
     ensures shown { IfOk result (V.shows view.now (sides old.now new.now marks.now)) }
     ensures bound { steps.new ≤ steps.old + most_steps (sides old.now new.now marks.now) }
+    ensures past { IfErr result (λ e. OnLimit e (ViewPasses (V.passes view.now) (sides old.now new.now marks.now))) }
 {
     let bound = bind_all(alloc, old.exports(), new.exports())?;
     let pair = BoundPair {
@@ -189,6 +199,8 @@ impl View for Verdict {
 
     ghost shows = { λ v s shown. IsRight s shown × IsFitting s shown };
 
+    ghost passes = { λ v. VerdictPasses };
+
     fn view(&self, alloc: Global, compared: &Compared) -> Result<Comparison, NoMemory> {
         verdict_of(alloc, compared)
     }
@@ -208,6 +220,7 @@ pub fn compare<L: Ledger>(
     ensures right { IfOk result (IsRight (sides old.now new.now marks.now)) }
     ensures fits { IfOk result (IsFitting (sides old.now new.now marks.now)) }
     ensures bound { steps.new ≤ steps.old + most_steps (sides old.now new.now marks.now) }
+    ensures past { IfErr result (λ e. OnLimit e (ComparisonPasses (sides old.now new.now marks.now))) }
 {
     compare_by(alloc, old, new, marks, &Verdict, steps)
 }

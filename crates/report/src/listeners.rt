@@ -1,5 +1,6 @@
 // The listeners of the program, one for each style except `Own`.
-ghost use Rattle.std.specs.Prelude.{◌≡◌, [], ◌∷◌, ◌++◌, take, OnOk, OnErr};
+ghost use Rattle.std.specs.Prelude.{◌≡◌, [], ◌∷◌, ◌++◌, take, IfErr, OnOk, OnErr};
+ghost use Rattle.abi_base.specs.declared.fault.NoMemory.TheVariants.{Allocation};
 ghost use Rattle.report.specs.Listening.{styled};
 ghost use Rattle.report.specs.declared.style.Style.TheVariants.{Text, Table, Counts, First};
 
@@ -14,6 +15,7 @@ use std::alloc::Global;
 fn keep(alloc: Global, rows: &mut List<Row>, row: &Row) -> Result<(), NoMemory>
     ensures kept { OnOk result (rows.new ≡ rows.old ++ row.now ∷ []) }
     ensures none { OnErr result (rows.new ≡ rows.old) }
+    ensures named { IfErr result (λ e. e ≡ Allocation) }
 {
     let copy = row.copy(alloc)?;
     rows.push(copy)

@@ -46,7 +46,8 @@ pub struct Row {
 impl Row {
     /// An equal row. It fails only if memory runs out.
     pub fn copy(&self, alloc: Global) -> Result<Row, NoMemory>
-        ensures { IfOk result (λ row. row ≡ self.now) }
+        ensures same { IfOk result (λ row. row ≡ self.now) }
+        ensures named { IfErr result (λ e. e ≡ Allocation) }
     {
         Ok(Row {
             rule: self.rule,

@@ -1,5 +1,6 @@
 // A value of a rule.
-ghost use Rattle.std.specs.Prelude.{◌≡◌, IfOk};
+ghost use Rattle.std.specs.Prelude.{◌≡◌, IfErr, IfOk};
+ghost use Rattle.abi_base.specs.declared.fault.NoMemory.TheVariants.{Allocation};
 ghost use Rattle.report.specs.Values.{text_of};
 
 use abi_base::{List, NoMemory};
@@ -25,7 +26,8 @@ pub enum Value {
 impl Value {
     /// An equal value. It fails only if memory runs out.
     pub fn copy(&self, alloc: Global) -> Result<Value, NoMemory>
-        ensures { IfOk result (λ value. value ≡ self.now) }
+        ensures same { IfOk result (λ value. value ≡ self.now) }
+        ensures named { IfErr result (λ e. e ≡ Allocation) }
     {
         match self {
             Value::Nothing => Ok(Value::Nothing),

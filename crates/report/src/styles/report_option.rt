@@ -1,5 +1,6 @@
 // Which listeners hear the report.
-ghost use Rattle.std.specs.Prelude.{◌≡◌, [], List, map, filter, All, IfOk};
+ghost use Rattle.std.specs.Prelude.{◌≡◌, [], List, map, filter, All, IfErr, IfOk};
+ghost use Rattle.abi_base.specs.declared.fault.NoMemory.TheVariants.{Allocation};
 ghost use Rattle.report.specs.styles.Wanted.{wanted_voices};
 ghost use Rattle.report.specs.styles.Wanted as spec;
 
@@ -53,6 +54,7 @@ pub fn wanted_listeners(
     ensures unheard { IfOk result (λ kept. All (λ listener. heard listener ≡ []) kept.items) }
     ensures kept { IfOk result (λ kept. kept.items ≡ filter (λ listener. spec.is_wanted wanted (voice listener).style) listeners.items) }
     ensures voices { IfOk result (λ kept. map voice kept.items ≡ wanted_voices wanted (map voice listeners.items)) }
+    ensures named { IfErr result (λ e. e ≡ Allocation) }
 {
     let mut waiting = listeners;
     let mut kept = Vec::new(alloc);

@@ -11,7 +11,7 @@ tell_one-requires g c =
 pub loop-waiting-preserved : goal.loop-waiting-preserved
 loop-waiting-preserved g c =
     let some : 0 < length c.loop-waiting.waiting.items = omega (arith, c.loop-waiting.waiting.ok.0, c.remove.ensures.len) in
-    tells_at _ _ _ _ _ _ _ _ _ (tells_more _ _ _ _ _ _ _ _ c.remove.result c.loop-waiting.invariant some c.remove.ensures.value c.in_ok-text.ensures) c.remove.ensures.items
+    tells_at _ _ _ _ _ _ _ _ _ (tells_more _ _ _ _ _ _ _ _ c.remove.result c.loop-waiting.invariant some c.remove.ensures.value c.in_ok-text.ensures.made) c.remove.ensures.items
     (c.in_ok-extend_from_slice.ensures.items ∙ ap (λ (l : List ℕ). c.loop-waiting.out.items ++ l) c.deref.ensures.value)
 
 pub loop-waiting-init : goal.loop-waiting-init

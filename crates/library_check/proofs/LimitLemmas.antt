@@ -1,0 +1,145 @@
+-- A limit that one input passes, or one step of a command, is one that the command's inputs pass.
+use Rattle.std.proofs.Common.{◌≡◌, ◌<◌, ℕ, Bool, List, refl, sym, subst, inl, inr}
+use Rattle.abi_base.specs.declared.fault.NoMemory.{NoMemory}
+use Rattle.abi_base.specs.declared.fault.NoMemory.TheVariants.{Past}
+use Rattle.abi_base.specs.declared.limit.Limit.{Limit}
+use Rattle.abi_base.specs.declared.limit.Limit.TheVariants.{PairParts}
+use Rattle.abi_base.specs.Outcome.{OnLimit}
+use Rattle.abi_base.proofs.lemmas.Outcomes.{on_limit_weaker}
+use Rattle.abi_types.specs.Libraries.{PlainLibrary}
+use Rattle.abi_types.specs.declared.library.Marks.{Marks}
+use Rattle.app_check.specs.Imports.{PlainImport, imports_of}
+use Rattle.app_check.specs.Imports as imports
+use Rattle.app_check.specs.Used.{narrowed_marks}
+use Rattle.cert_check.specs.Compatible.{Sides, sides}
+use Rattle.cert_check.specs.Fitting.{lines_allowed, lines_weight}
+use Rattle.cert_text.specs.Certs.{PlainCert}
+use Rattle.cert_text.specs.Grammar.{IsSpelled}
+use Rattle.library_read.specs.Libraries.{library_of}
+use Rattle.library_read.specs.Limits.{LibraryPasses}
+use Rattle.pair_compare.specs.Limits.{ComparisonPasses}
+use Rattle.suppression_text.specs.Classes.{PassesClasses}
+use Rattle.suppression_text.specs.Rules.{PlainRules, rules_of}
+use Rattle.suppressions.specs.Limits.{MarksPass}
+use Rattle.suppressions.specs.Marks.{marks_of}
+use Rattle.library_check.specs.Applications.{sides_used, used_by}
+use Rattle.library_check.specs.declared.applying.NotJudged.{NotJudged}
+use Rattle.library_check.specs.declared.applying.NotJudged.TheVariants as not_judged
+use Rattle.library_check.specs.declared.checking.Unchecked.{Unchecked}
+use Rattle.library_check.specs.declared.checking.Unchecked.TheVariants as unchecked
+use Rattle.library_check.specs.Judgements.{ruled}
+use Rattle.library_check.specs.declared.verifying.Unverified.{Unverified}
+use Rattle.library_check.specs.declared.verifying.Unverified.TheVariants as unverified
+use Rattle.library_check.specs.Limits.{AppPasses, CheckPasses, InputsPass, JudgementPasses, LinesPass, OnNotJudged, OnUnchecked, OnUnverified, PairPasses, SettlementPasses, TextPasses, UsedPass, VerifyPasses}
+
+on_unchecked_weaker : (u : Unchecked) (P Q : Limit → Type 0) → ((l : Limit) → P l → Q l) → OnUnchecked u P → OnUnchecked u Q
+on_unchecked_weaker (unchecked.NoMemory cause) P Q weaker h = on_limit_weaker cause P Q weaker h
+on_unchecked_weaker (unchecked.Old fault) P Q weaker h = h
+on_unchecked_weaker (unchecked.New fault) P Q weaker h = h
+on_unchecked_weaker (unchecked.Rules fault) P Q weaker h = h
+
+-- ---- reading
+
+pub old_passes : (old new : List ℕ) (u : Unchecked) → OnUnchecked u (LibraryPasses old) → OnUnchecked u (PairPasses old new)
+old_passes old new u h = on_unchecked_weaker u (LibraryPasses old) (PairPasses old new) (λ l p. inl p) h
+
+pub new_passes : (old new : List ℕ) (u : Unchecked) → OnUnchecked u (LibraryPasses new) → OnUnchecked u (PairPasses old new)
+new_passes old new u h = on_unchecked_weaker u (LibraryPasses new) (PairPasses old new) (λ l p. inr p) h
+
+pub pair_passes : (old new rules : List ℕ) (u : Unchecked) → OnUnchecked u (PairPasses old new) → OnUnchecked u (InputsPass old new rules)
+pair_passes old new rules u h = on_unchecked_weaker u (PairPasses old new) (InputsPass old new rules) (λ l p. inl p) h
+
+pub rules_pass : (old new rules : List ℕ) (u : Unchecked) → OnUnchecked u (PassesClasses rules) → OnUnchecked u (InputsPass old new rules)
+rules_pass old new rules u h = on_unchecked_weaker u (PassesClasses rules) (InputsPass old new rules) (λ l p. inr p) h
+
+-- ---- judging
+
+pub marks_pass : (old new : PlainLibrary) (rules : PlainRules) (e : NoMemory) → OnLimit e (MarksPass rules old) → OnLimit e (JudgementPasses old new rules)
+marks_pass old new rules e h = on_limit_weaker e (MarksPass rules old) (JudgementPasses old new rules) (λ l p. inl p) h
+
+pub comparison_passes : (old new : PlainLibrary) (rules : PlainRules) (marks : Marks) (e : NoMemory) → marks ≡ marks_of rules old → OnLimit e (ComparisonPasses (sides old new marks))
+    → OnLimit e (JudgementPasses old new rules)
+comparison_passes old new rules marks e is h =
+    on_limit_weaker e (ComparisonPasses (ruled old new rules)) (JudgementPasses old new rules) (λ l p. inr p)
+    (subst (λ (m : Marks). OnLimit e (ComparisonPasses (sides old new m))) is h)
+
+-- ---- checking
+
+pub inputs_pass : (old new rules : List ℕ) (u : Unchecked) → OnUnchecked u (InputsPass old new rules) → OnUnchecked u (CheckPasses old new rules)
+inputs_pass old new rules u h = on_unchecked_weaker u (InputsPass old new rules) (CheckPasses old new rules) (λ l p. inl p) h
+
+pub judgement_passes : (old new rules : List ℕ) (old_library new_library : PlainLibrary) (read : PlainRules) (e : NoMemory)
+    → old_library ≡ library_of old → new_library ≡ library_of new → read ≡ rules_of rules → OnLimit e (JudgementPasses old_library new_library read) → OnLimit e (CheckPasses old new rules)
+judgement_passes old new rules old_library new_library read e old_is new_is rules_is h =
+    let one = subst (λ (l : PlainLibrary). OnLimit e (JudgementPasses l new_library read)) old_is h in
+    let two = subst (λ (l : PlainLibrary). OnLimit e (JudgementPasses (library_of old) l read)) new_is one in
+    on_limit_weaker e (JudgementPasses (library_of old) (library_of new) (rules_of rules)) (CheckPasses old new rules) (λ l p. inr p)
+    (subst (λ (r : PlainRules). OnLimit e (JudgementPasses (library_of old) (library_of new) r)) rules_is two)
+
+-- ---- verifying
+
+on_unverified_weaker : (u : Unverified) (P Q : Limit → Type 0) → ((l : Limit) → P l → Q l) → OnUnverified u P → OnUnverified u Q
+on_unverified_weaker (unverified.NoMemory cause) P Q weaker h = on_limit_weaker cause P Q weaker h
+on_unverified_weaker (unverified.Old fault) P Q weaker h = h
+on_unverified_weaker (unverified.New fault) P Q weaker h = h
+on_unverified_weaker (unverified.Rules fault) P Q weaker h = h
+on_unverified_weaker (unverified.Certificate fault) P Q weaker h = h
+
+pub marks_settle : (old new : PlainLibrary) (rules : PlainRules) (cert : PlainCert) (e : NoMemory) → OnLimit e (MarksPass rules old) → OnLimit e (SettlementPasses old new rules cert)
+marks_settle old new rules cert e h = on_limit_weaker e (MarksPass rules old) (SettlementPasses old new rules cert) (λ l p. inl p) h
+
+pub lines_settle : (old new : PlainLibrary) (rules : PlainRules) (cert : PlainCert) (marks : Marks) (e : NoMemory) → marks ≡ marks_of rules old → e ≡ Past PairParts
+    → lines_allowed (sides old new marks) < lines_weight (sides old new marks) cert.pairs → OnLimit e (SettlementPasses old new rules cert)
+lines_settle old new rules cert marks e is named above =
+    let more = subst (λ (m : Marks). lines_allowed (sides old new m) < lines_weight (sides old new m) cert.pairs) is above in
+    let passed : SettlementPasses old new rules cert PairParts = inr (refl, more) in
+    subst (λ (x : NoMemory). OnLimit x (SettlementPasses old new rules cert)) (sym named) passed
+
+pub inputs_verify : (old new rules certificate : List ℕ) (u : Unverified) → OnUnverified u (InputsPass old new rules) → OnUnverified u (VerifyPasses old new rules certificate)
+inputs_verify old new rules certificate u h = on_unverified_weaker u (InputsPass old new rules) (VerifyPasses old new rules certificate) (λ l p. inl p) h
+
+pub nothing_verifies : (old new rules certificate : List ℕ) (u : Unverified) → OnUnverified u (λ l. ⊥) → OnUnverified u (VerifyPasses old new rules certificate)
+nothing_verifies old new rules certificate u h = on_unverified_weaker u (λ l. ⊥) (VerifyPasses old new rules certificate) (λ l p. absurd p) h
+
+pub settlement_verifies : (old new rules certificate : List ℕ) (old_library new_library : PlainLibrary) (read : PlainRules) (cert : PlainCert) (e : NoMemory)
+    → old_library ≡ library_of old → new_library ≡ library_of new → read ≡ rules_of rules → IsSpelled certificate cert → OnLimit e (SettlementPasses old_library new_library read cert)
+    → OnLimit e (VerifyPasses old new rules certificate)
+settlement_verifies old new rules certificate old_library new_library read cert e old_is new_is rules_is spelled h =
+    let one = subst (λ (l : PlainLibrary). OnLimit e (SettlementPasses l new_library read cert)) old_is h in
+    let two = subst (λ (l : PlainLibrary). OnLimit e (SettlementPasses (library_of old) l read cert)) new_is one in
+    let three = subst (λ (r : PlainRules). OnLimit e (SettlementPasses (library_of old) (library_of new) r cert)) rules_is two in
+    on_limit_weaker e (SettlementPasses (library_of old) (library_of new) (rules_of rules) cert) (VerifyPasses old new rules certificate) (λ l p. inr (cert, spelled, p)) three
+
+-- ---- applying
+
+on_not_judged_weaker : (u : NotJudged) (P Q : Limit → Type 0) → ((l : Limit) → P l → Q l) → OnNotJudged u P → OnNotJudged u Q
+on_not_judged_weaker (not_judged.NoMemory cause) P Q weaker h = on_limit_weaker cause P Q weaker h
+on_not_judged_weaker (not_judged.App fault) P Q weaker h = h
+on_not_judged_weaker (not_judged.Old fault) P Q weaker h = h
+on_not_judged_weaker (not_judged.New fault) P Q weaker h = h
+on_not_judged_weaker (not_judged.Rules fault) P Q weaker h = h
+
+pub marks_used : (imports : List PlainImport) (old new : PlainLibrary) (rules : PlainRules) (e : NoMemory) → OnLimit e (MarksPass rules old) → OnLimit e (UsedPass imports old new rules)
+marks_used imports old new rules e h = on_limit_weaker e (MarksPass rules old) (UsedPass imports old new rules) (λ l p. inl p) h
+
+pub comparison_used : (imports : List PlainImport) (old new : PlainLibrary) (rules : PlainRules) (marks : Marks) (e : NoMemory) → marks ≡ narrowed_marks (marks_of rules old) (used_by imports old)
+    → OnLimit e (ComparisonPasses (sides old new marks)) → OnLimit e (UsedPass imports old new rules)
+comparison_used imports old new rules marks e is h =
+    on_limit_weaker e (ComparisonPasses (sides_used imports old new rules)) (UsedPass imports old new rules) (λ l p. inr p)
+    (subst (λ (m : Marks). OnLimit e (ComparisonPasses (sides old new m))) is h)
+
+pub imports_pass : (app old new rules : List ℕ) (u : NotJudged) → OnNotJudged u (imports.AppPasses app) → OnNotJudged u (AppPasses app old new rules)
+imports_pass app old new rules u h = on_not_judged_weaker u (imports.AppPasses app) (AppPasses app old new rules) (λ l p. inl p) h
+
+pub inputs_pass_for : (app old new rules : List ℕ) (u : NotJudged) → OnNotJudged u (InputsPass old new rules) → OnNotJudged u (AppPasses app old new rules)
+inputs_pass_for app old new rules u h = on_not_judged_weaker u (InputsPass old new rules) (AppPasses app old new rules) (λ l p. inr (inl p)) h
+
+pub used_pass : (app old new rules : List ℕ) (imports : List PlainImport) (old_library new_library : PlainLibrary) (read : PlainRules) (e : NoMemory)
+    → imports ≡ imports_of app → old_library ≡ library_of old → new_library ≡ library_of new → read ≡ rules_of rules → OnLimit e (UsedPass imports old_library new_library read)
+    → OnLimit e (AppPasses app old new rules)
+used_pass app old new rules imports old_library new_library read e imports_are old_is new_is rules_is h =
+    let zero = subst (λ (i : List PlainImport). OnLimit e (UsedPass i old_library new_library read)) imports_are h in
+    let one = subst (λ (l : PlainLibrary). OnLimit e (UsedPass (imports_of app) l new_library read)) old_is zero in
+    let two = subst (λ (l : PlainLibrary). OnLimit e (UsedPass (imports_of app) (library_of old) l read)) new_is one in
+    on_limit_weaker e (UsedPass (imports_of app) (library_of old) (library_of new) (rules_of rules)) (AppPasses app old new rules) (λ l p. inr (inr p))
+    (subst (λ (r : PlainRules). OnLimit e (UsedPass (imports_of app) (library_of old) (library_of new) r)) rules_is two)
