@@ -4,6 +4,7 @@ use Rattle.std.specs.Prelude.{find, take_while}
 use Rattle.std.specs.List.{cons_option, filter_map}
 use Rattle.std.proofs.lemmas.List.Sums.{take_while-cons}
 use Rattle.abi_base.proofs.lemmas.Places.{places, places_more, places_none}
+use Rattle.explain.specs.Programs.{is_used, has_flags}
 
 -- ---- headers
 
@@ -38,18 +39,9 @@ none_given g p i n le = rw (places_none i n le) refl
 
 -- ---- entries
 
--- the first entry with p from i on, before the first one without q
-abbrev pub find_before_end : (ℕ → Bool) → (ℕ → Bool) → ℕ → ℕ → Option ℕ
-find_before_end p q i n = find p (take_while q (places i n))
+-- the first entry with flags from i on, before the end of a table
+abbrev pub flags_from : List ℕ → ℕ → ℕ → Option ℕ
+flags_from table i n = find (has_flags table) (take_while (is_used table) (places i n))
 
-pub ends_here : (p q : ℕ → Bool) (i n : ℕ) → i < n → q i ≡ false → find_before_end p q i n ≡ None
-ends_here p q i n lt ends = rw (places_more i n lt, take_while-cons, ends) refl
-
-pub found_here : (p q : ℕ → Bool) (i n : ℕ) → i < n → q i ≡ true → p i ≡ true → find_before_end p q i n ≡ Some i
-found_here p q i n lt goes passes = rw (places_more i n lt, take_while-cons, goes) (rw passes refl)
-
-pub not_here : (p q : ℕ → Bool) (i n : ℕ) → i < n → q i ≡ true → p i ≡ false → find_before_end p q i n ≡ find_before_end p q (i + 1) n
-not_here p q i n lt goes fails = rw (places_more i n lt, take_while-cons, goes) (rw fails refl)
-
-pub none_left : (p q : ℕ → Bool) (i n : ℕ) → n ≤ i → find_before_end p q i n ≡ None
-none_left p q i n le = rw (places_none i n le) refl
+pub no_flags_here : (table : List ℕ) (i n : ℕ) → i < n → is_used table i ≡ true → has_flags table i ≡ false → flags_from table i n ≡ flags_from table (i + 1) n
+no_flags_here table i n lt goes fails = rw (places_more i n lt, take_while-cons, goes) (rw fails refl)
