@@ -1,5 +1,7 @@
 pub mod AppFault
 pub mod ImportsRead
-pub mod NarrowedExports
-pub mod Places
 pub mod LimitLemmas
+pub mod LinksLemmas
+pub mod NarrowedExports
+pub mod NeededFiles
+pub mod Places

@@ -1,3 +1,4 @@
 pub mod Imports
+pub mod Links
 pub mod Plain
 pub mod Used

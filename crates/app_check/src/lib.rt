@@ -4,6 +4,8 @@
 mod import;
 mod linking;
 mod narrowing;
+mod needed;
+mod offered;
 mod reading;
 mod using;
 

@@ -154,10 +154,10 @@ fn imports_in<'a>(
     Ok(imports)
 }
 
-// The imports among the symbols of a file. Err is the first fault of its versions, its version needs and its imports. Where its
-// versions have no fault, the table of their indexes has none either.
+/// The imports among the symbols of a file. Err is the first fault of its versions, its version needs and its imports. Where its
+/// versions have no fault, the table of their indexes has none either.
 #[tactic(auto, using(crate::proofs::LimitLemmas::definitions_pass, crate::proofs::LimitLemmas::needs_pass, crate::proofs::LimitLemmas::indexes_pass), unfolding(crate::specs::Imports::imports_of))]
-fn imports_among<'a>(
+pub(crate) fn imports_among<'a>(
     alloc: Global,
     file: &ElfFile<'a>,
     symbols: &[Symbol<'a>],

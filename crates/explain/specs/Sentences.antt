@@ -74,6 +74,10 @@ SaysWrong (repeated_option option) text = SaysOf option text
 SaysWrong (needless_value option) text = SaysOf option text
 SaysWrong other_words text = text ≡ codes "the words fit no command"
 
+-- what is said of arguments of which one is not UTF-8
+abbrev pub encoding_words : List ℕ
+encoding_words = codes "an argument is not UTF-8; only files whose names are UTF-8 can be given"
+
 -- the words about a rule file with a line whose value contains ` #` or ` ;`
 abbrev pub comment_words : List ℕ → List ℕ
 comment_words line = concat (codes "a comment stands on a line of its own, so what looks like one is a part of the value: " ∷ line ∷ [])

@@ -41,7 +41,9 @@ pub(crate) const E_PHOFF: usize = 32;
 pub(crate) const E_PHNUM: usize = 56;
 
 // The size of a program header, the offsets of its fields, and the types of segments (gABI, "Program Header").
-pub(crate) const PROGRAM_HEADER_SIZE: usize = 56;
+pub(crate) const PROGRAM_HEADER_SIZE: u64 = 56;
+
+pub(crate) const P_TYPE: usize = 0;
 
 pub(crate) const P_OFFSET: usize = 8;
 

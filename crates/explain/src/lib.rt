@@ -35,4 +35,4 @@ pub use remarks::{lost_sentence, sizeless_sentence, untyped_sentence};
 pub use rule_lines::{comment_sentence, commented_values};
 pub use sentence::fault_sentence;
 pub use tags::{TaggedType, tag_sentence, tagged_sentence};
-pub use wrong::wrong_sentence;
+pub use wrong::{encoding_sentence, wrong_sentence};

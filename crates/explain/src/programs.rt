@@ -1,70 +1,184 @@
 // Programs that are given as libraries.
-ghost use Rattle.std.specs.Prelude.{◌≡◌, IfOk, IsTrue, string_bytes};
+ghost use Rattle.std.specs.Prelude.{◌≡◌, ◌+◌, ◌*◌, ◌≤◌, [], find, IfOk, IfSome, IsTrue, length, string_bytes};
+ghost use Rattle.std.specs.List.{cons_option};
+ghost use Rattle.std.specs.Option.{option_copied};
 ghost use Rattle.explain.specs.Lines.{is_one_line};
-ghost use Rattle.explain.specs.Programs.{program_words};
+ghost use Rattle.explain.specs.Programs.{header_with, headers_in, tag_of, flags_entry, flags_of, program_words};
+ghost use Rattle.explain.specs.Programs as spec;
 ghost use Rattle.explain.specs.Sentences.{said_of};
 
 use crate::constants::{
     D_VAL, DF_1_PIE, DT_FLAGS_1, DT_NULL, DYNAMIC_SIZE, E_PHNUM, E_PHOFF, P_FILESZ, P_OFFSET,
-    PROGRAM_HEADER_SIZE, PT_DYNAMIC, PT_INTERP,
+    P_TYPE, PROGRAM_HEADER_SIZE, PT_DYNAMIC, PT_INTERP,
 };
 use crate::lines::said;
-use crate::offsets::offset_at;
-use abi_base::{NoMemory, u16_at, u32_at, u64_at};
+use abi_base::{NoMemory, u16_at, u32_in, u64_in};
 use std::alloc::Global;
 
-// The program header with an index.
-fn header_at(bytes: &[u8], index: u16) -> Option<&[u8]> {
-    let table = offset_at(bytes, E_PHOFF)?;
-    let start = usize::from(index) * PROGRAM_HEADER_SIZE;
-    bytes.get(table..)?.get(start..start + PROGRAM_HEADER_SIZE)
+// The bytes of this size at an offset, if there are that many.
+fn piece_at(bytes: &[u8], at: u64, size: u64) -> Option<&[u8]>
+    ensures found { option_copied result ≡ spec.piece_at bytes.now at size }
+    ensures long { IfSome result (λ piece. length piece.now ≡ size) }
+{
+    let at = at as usize;
+    let size = size as usize;
+    if at <= bytes.len() && size <= bytes.len() - at {
+        Some(&bytes[at..at + size])
+    } else {
+        None
+    }
 }
 
-// The header of the first segment of a type.
-fn segment_of(bytes: &[u8], wanted: u32) -> Option<&[u8]> {
-    for index in 0..u16_at(bytes, E_PHNUM)? {
-        let header = header_at(bytes, index)?;
-        if u32_at(header, 0) == Some(wanted) {
+// The program header with an index.
+fn header_at(bytes: &[u8], table: u64, index: u16) -> Option<&[u8]>
+    ensures found { option_copied result ≡ header_with bytes.now table index }
+    ensures long { IfSome result (λ header. length header.now ≡ 56) }
+{
+    let at = table.checked_add(u64::from(index) * PROGRAM_HEADER_SIZE)?;
+    piece_at(bytes, at, PROGRAM_HEADER_SIZE)
+}
+
+// Whether a header is that of a segment of a type.
+fn is_of_type(header: &[u8], wanted: u32) -> bool
+    requires { length header.now ≡ 56 }
+    ensures { result ≡ spec.is_of_type wanted header.now }
+{
+    u32_in(header, P_TYPE) == wanted
+}
+
+// The program header with an index, if it is that of a segment of a type.
+fn header_of_type(bytes: &[u8], table: u64, index: u16, wanted: u32) -> Option<&[u8]>
+    ensures found { option_copied result ≡ find (spec.is_of_type wanted) (cons_option (header_with bytes.now table index) []) }
+    ensures long { IfSome result (λ header. length header.now ≡ 56) }
+{
+    match header_at(bytes, table, index) {
+        Some(header) => {
+            if is_of_type(header, wanted) {
+                Some(header)
+            } else {
+                None
+            }
+        }
+        None => None,
+    }
+}
+
+// The first header of a segment of a type, in a table of this many headers.
+fn segment_among(bytes: &[u8], table: u64, count: u16, wanted: u32) -> Option<&[u8]>
+    ensures found { option_copied result ≡ find (spec.is_of_type wanted) (headers_in bytes.now table count) }
+    ensures long { IfSome result (λ header. length header.now ≡ 56) }
+{
+    for index in 0..count {
+        if let Some(header) = header_of_type(bytes, table, index, wanted) {
             return Some(header);
         }
     }
     None
 }
 
-// The dynamic table, by the program headers.
-fn dynamic_table(bytes: &[u8]) -> Option<&[u8]> {
-    let header = segment_of(bytes, PT_DYNAMIC)?;
-    let start = offset_at(header, P_OFFSET)?;
-    let size = offset_at(header, P_FILESZ)?;
-    bytes.get(start..)?.get(..size)
+// The header of the first segment of a type.
+#[tactic(auto, using(abi_base::proofs::lemmas::Numbers::number_inside), unfolding(crate::specs::Programs::segment_of))]
+fn segment_of(bytes: &[u8], wanted: u32) -> Option<&[u8]>
+    ensures found { option_copied result ≡ spec.segment_of bytes.now wanted }
+    ensures long { IfSome result (λ header. length header.now ≡ 56) }
+{
+    match u16_at(bytes, E_PHNUM) {
+        Some(count) => segment_among(bytes, u64_in(bytes, E_PHOFF), count, wanted),
+        None => None,
+    }
 }
 
-// The value of the first entry with the tag DT_FLAGS_1 in a dynamic table.
-fn flags_in(table: &[u8]) -> Option<u64> {
-    for entry in table.chunks_exact(DYNAMIC_SIZE) {
-        match u64_at(entry, 0)? {
-            DT_NULL => return None,
-            DT_FLAGS_1 => return u64_at(entry, D_VAL),
-            _ => {}
+// What a segment with this header has in the file.
+fn contents_of<'a>(bytes: &'a [u8], header: &[u8]) -> Option<&'a [u8]>
+    requires { length header.now ≡ 56 }
+    ensures { option_copied result ≡ spec.contents_of bytes.now header.now }
+{
+    piece_at(bytes, u64_in(header, P_OFFSET), u64_in(header, P_FILESZ))
+}
+
+// The dynamic table, by the program headers.
+fn dynamic_table(bytes: &[u8]) -> Option<&[u8]>
+    ensures { option_copied result ≡ spec.dynamic_table bytes.now }
+{
+    match segment_of(bytes, PT_DYNAMIC) {
+        Some(header) => contents_of(bytes, header),
+        None => None,
+    }
+}
+
+// The tag of the entry of a dynamic table with this number.
+#[tactic(auto, unfolding(crate::specs::Programs::tag_of))]
+fn tag_at(table: &[u8], number: usize) -> u64
+    requires { 16 * (number + 1) ≤ length table.now }
+    ensures { result ≡ tag_of table.now number }
+{
+    u64_in(table, DYNAMIC_SIZE * number)
+}
+
+// The value of this entry.
+#[tactic(auto, unfolding(crate::specs::Programs::value_of))]
+fn value_at(table: &[u8], number: usize) -> u64
+    requires { 16 * (number + 1) ≤ length table.now }
+    ensures { result ≡ spec.value_of table.now number }
+{
+    u64_in(table, DYNAMIC_SIZE * number + D_VAL)
+}
+
+// The number of the first entry with the tag DT_FLAGS_1 in a dynamic table.
+fn flags_entry_in(table: &[u8]) -> Option<usize>
+    ensures entry { result ≡ flags_entry table.now }
+    ensures inside { IfSome result (λ i. 16 * (i + 1) ≤ length table.now) }
+{
+    for number in 0..table.len() / DYNAMIC_SIZE {
+        let tag = tag_at(table, number);
+        if tag == DT_NULL {
+            return None;
+        }
+        if tag == DT_FLAGS_1 {
+            return Some(number);
         }
     }
     None
 }
 
+// The value of the first entry with the tag DT_FLAGS_1 in a dynamic table.
+fn flags_in(table: &[u8]) -> Option<u64>
+    ensures { result ≡ flags_of table.now }
+{
+    match flags_entry_in(table) {
+        Some(number) => Some(value_at(table, number)),
+        None => None,
+    }
+}
+
+// Whether flags have the bit DF_1_PIE.
+fn says_pie(flags: u64) -> bool
+    ensures { result ≡ spec.says_pie flags }
+{
+    (flags / DF_1_PIE) % 2 == 1
+}
+
 /// Whether a file with these bytes at its beginning names a program interpreter (gABI, "Program Header"), as all programs do and
 /// hardly any library does. The bytes need not go beyond the program headers.
-pub fn has_interpreter(bytes: &[u8]) -> bool {
+pub fn has_interpreter(bytes: &[u8]) -> bool
+    ensures { result ≡ spec.has_interpreter bytes.now }
+{
     segment_of(bytes, PT_INTERP).is_some()
 }
 
 /// Whether the file with these bytes is a position-independent executable, which has the type of shared objects, too: it names a
 /// program interpreter, and the flag DF_1_PIE of its dynamic table is set.
-pub fn is_program(bytes: &[u8]) -> bool {
+pub fn is_program(bytes: &[u8]) -> bool
+    ensures { result ≡ spec.is_program bytes.now }
+{
     if !has_interpreter(bytes) {
         return false;
     }
     match dynamic_table(bytes) {
-        Some(table) => flags_in(table).is_some_and(|flags| flags & DF_1_PIE != 0),
+        Some(table) => match flags_in(table) {
+            Some(flags) => says_pie(flags),
+            None => false,
+        },
         None => false,
     }
 }

@@ -1,8 +1,8 @@
 // Arguments that form no request.
-ghost use Rattle.std.specs.Prelude.{IfOk, IsTrue, string_bytes};
+ghost use Rattle.std.specs.Prelude.{◌≡◌, IfOk, IsTrue, string_bytes};
 ghost use Rattle.cli_args.specs.WrongWords.{plain_wrong};
 ghost use Rattle.explain.specs.Lines.{is_one_line};
-ghost use Rattle.explain.specs.Sentences.{SaysOf, SaysWrong};
+ghost use Rattle.explain.specs.Sentences.{SaysOf, SaysWrong, encoding_words};
 
 use crate::lines::said;
 use abi_base::NoMemory;
@@ -147,4 +147,14 @@ pub fn wrong_sentence(alloc: Global, wrong: WrongWords<'_>) -> Result<String, No
         }
         WrongWords::OtherWords => Ok(String::from_str(alloc, "the words fit no command")?),
     }
+}
+
+/// The sentence on arguments of which one is not UTF-8. Rattle names files by texts, so it opens no file by such a name.
+pub fn encoding_sentence(alloc: Global) -> Result<String, NoMemory>
+    ensures { IfOk result (λ text. string_bytes text ≡ encoding_words) }
+{
+    Ok(String::from_str(
+        alloc,
+        "an argument is not UTF-8; only files whose names are UTF-8 can be given",
+    )?)
 }

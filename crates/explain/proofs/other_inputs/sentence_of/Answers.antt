@@ -1,4 +1,4 @@
-use Rattle.std.proofs.Common.{rules, ◌∙◌, Some, ap, inl, inr}
+use Rattle.std.proofs.Common.{rules, Some, ap, inl, inr}
 use Rattle.explain.proofs.other_inputs.sentence_of.Goals as goal
 
 pub returns-in_default-name_of-clause-tells : goal.returns-in_default-name_of-clause-tells
