@@ -31,5 +31,5 @@ command_of voices (exports library) = record { inputs = exports_inputs library; 
 command_of voices (trial count) = record { inputs = trial_inputs count; says = trial_says count; passes = trial_passes }
 command_of voices (migrate rules old new certificate) = record { inputs = migrate_inputs rules old new certificate; says = migrate_says; passes = migrate_passes }
 command_of voices (compose first middle last certificate1 certificate2) = record { inputs = compose_inputs first middle last certificate1 certificate2; says = compose_says; passes = compose_passes }
-command_of voices (layout library tag) = record { inputs = layout_inputs library; says = layout_says tag; passes = layout_passes }
+command_of voices (layout library tag) = record { inputs = layout_inputs library; says = layout_says tag; passes = layout_passes tag }
 command_of voices (app rules report program old new) = record { inputs = app_inputs rules program old new; says = app_says (wanted_voices report voices); passes = app_passes }

@@ -8,6 +8,7 @@ ghost use Rattle.cli_args.specs.Commands.{plain_word};
 ghost use Rattle.commands.specs.Commands.{asks_of, places_of, plain_place};
 ghost use Rattle.commands.specs.Faults.{AreReadable, StopsAt};
 ghost use Rattle.library_check.specs.Applications.{IsAppJudged, IsNotJudged};
+ghost use Rattle.library_check.specs.Limits.{AppPasses, OnNotJudged};
 ghost use Rattle.report.specs.styles.Wanted.{wanted_voices};
 
 use abi_base::NoMemory;
@@ -119,7 +120,7 @@ fn judge_app(
 // Why there is no verdict, by the input that cannot be read.
 const fn stop_of(not_judged: NotJudged) -> Stop
     ensures { (rules_name : _) (app_name old_name new_name app old new rules : List ℕ)
-        → IsNotJudged app old new rules not_judged
+        → IsNotJudged app old new rules not_judged → OnNotJudged not_judged (AppPasses app old new rules)
         → StopsAt (asks_of (app_inputs rules_name app_name old_name new_name)) app_passes (app ∷ old ∷ new ∷ rules ∷ []) result }
 {
     match not_judged {

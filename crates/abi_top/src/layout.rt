@@ -37,7 +37,7 @@ impl Command for Layout<'_> {
 
     ghost says = { λ c voices. layout_says c.words.tag.now };
 
-    ghost passes = { λ c. layout_passes };
+    ghost passes = { λ c. layout_passes c.words.tag.now };
 
     fn judge(
         self,
@@ -54,7 +54,7 @@ fn lay_out(alloc: Global, library: &[u8], tag: &str) -> Result<Judgement, Stop>
     requires { length library.now ≤ input_limit }
     ensures readable { (name : List ℕ) → OnOk result (AreReadable (asks_of (layout_inputs name)) (library.now ∷ [])) }
     ensures said { IfOk result (λ j. layout_says tag.now (library.now ∷ []) j.verdict j.untyped j.text.items) }
-    ensures stops { (name : List ℕ) → IfErr result (StopsAt (asks_of (layout_inputs name)) layout_passes (library.now ∷ [])) }
+    ensures stops { (name : List ℕ) → IfErr result (StopsAt (asks_of (layout_inputs name)) (layout_passes tag.now) (library.now ∷ [])) }
 {
     match layout_of(alloc, library, tag) {
         Ok(Laid::Lines(text)) => Ok(Judgement {

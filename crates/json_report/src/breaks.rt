@@ -1,5 +1,6 @@
 // The array of the breaks.
-ghost use Rattle.std.specs.Prelude.{◌≡◌, ◌+◌, ◌<◌, ◌++◌, drop, length, flat_map, codes, IfOk, OnOk};
+ghost use Rattle.std.specs.Prelude.{◌≡◌, ◌+◌, ◌<◌, ◌++◌, drop, length, flat_map, codes, IfErr, IfOk, OnOk};
+ghost use Rattle.abi_base.specs.declared.fault.NoMemory.TheVariants.{Allocation};
 ghost use Rattle.json_report.specs.Breaks.{detail_text, entries_text, entry_member, entry_text, path_text, place_text, row_text, rows_text, rule_text, steps_behind};
 ghost use Rattle.json_report.specs.Breaks as spec;
 ghost use Rattle.report.specs.declared.row.Row.{Row as AnyRow};
@@ -16,7 +17,8 @@ const BETWEEN: &[u8] = b" / ";
 // Appends the offset of an entry, or null if there is none.
 #[tactic(auto, unfolding(crate::specs::Breaks::entry_text))]
 fn push_entry(alloc: Global, text: &mut Vec<u8>, offset: u64) -> Result<(), NoMemory>
-    ensures { OnOk result (text.new.items ≡ text.old.items ++ entry_text offset) }
+    ensures appended { OnOk result (text.new.items ≡ text.old.items ++ entry_text offset) }
+    ensures named { IfErr result (λ e. e ≡ Allocation) }
 {
     if offset == 0 {
         return push(text, b"null");
@@ -42,7 +44,8 @@ fn push_byte_of_step(
     passed: usize,
 ) -> Result<usize, NoMemory>
     requires { i < length path.now }
-    ensures { IfOk result (λ next. text.new.items ++ steps_behind next (drop (i + 1) path.now) ≡ text.old.items ++ steps_behind passed (drop i path.now)) }
+    ensures appended { IfOk result (λ next. text.new.items ++ steps_behind next (drop (i + 1) path.now) ≡ text.old.items ++ steps_behind passed (drop i path.now)) }
+    ensures named { IfErr result (λ e. e ≡ Allocation) }
 {
     if passed > 0 {
         return Ok(passed - 1);
@@ -58,7 +61,8 @@ fn push_byte_of_step(
 // Appends the steps of a path as strings with commas between them.
 #[tactic(auto, using(crate::proofs::StepLemmas::steps_end))]
 fn push_steps(text: &mut Vec<u8>, path: &[u8]) -> Result<(), NoMemory>
-    ensures { OnOk result (text.new.items ≡ text.old.items ++ steps_behind 0 path.now) }
+    ensures appended { OnOk result (text.new.items ≡ text.old.items ++ steps_behind 0 path.now) }
+    ensures named { IfErr result (λ e. e ≡ Allocation) }
 {
     let mut passed: usize = 0;
     for i in 0..path.len() {
@@ -70,7 +74,8 @@ fn push_steps(text: &mut Vec<u8>, path: &[u8]) -> Result<(), NoMemory>
 // Appends the array of the steps of a path.
 #[tactic(auto, unfolding(crate::specs::Breaks::path_text))]
 fn push_path(text: &mut Vec<u8>, path: &[u8]) -> Result<(), NoMemory>
-    ensures { OnOk result (text.new.items ≡ text.old.items ++ path_text path.now) }
+    ensures appended { OnOk result (text.new.items ≡ text.old.items ++ path_text path.now) }
+    ensures named { IfErr result (λ e. e ≡ Allocation) }
 {
     if path.is_empty() {
         return push(text, b"[]");
@@ -83,7 +88,8 @@ fn push_path(text: &mut Vec<u8>, path: &[u8]) -> Result<(), NoMemory>
 // Appends the broken rule.
 #[tactic(auto, unfolding(crate::specs::Breaks::rule_text))]
 fn push_rule(text: &mut Vec<u8>, row: &Row) -> Result<(), NoMemory>
-    ensures { OnOk result (text.new.items ≡ text.old.items ++ rule_text row.now) }
+    ensures appended { OnOk result (text.new.items ≡ text.old.items ++ rule_text row.now) }
+    ensures named { IfErr result (λ e. e ≡ Allocation) }
 {
     push(text, b"{\"rule\":\"")?;
     push(text, row.rule.word().as_bytes())?;
@@ -95,7 +101,8 @@ fn push_rule(text: &mut Vec<u8>, row: &Row) -> Result<(), NoMemory>
 // Appends where it is broken.
 #[tactic(auto, unfolding(crate::specs::Breaks::place_text))]
 fn push_place(text: &mut Vec<u8>, row: &Row) -> Result<(), NoMemory>
-    ensures { OnOk result (text.new.items ≡ text.old.items ++ place_text row.now) }
+    ensures appended { OnOk result (text.new.items ≡ text.old.items ++ place_text row.now) }
+    ensures named { IfErr result (λ e. e ≡ Allocation) }
 {
     push(text, b",\"export\":")?;
     push_string(text, row.export.as_slice())?;
@@ -108,7 +115,8 @@ fn push_place(text: &mut Vec<u8>, row: &Row) -> Result<(), NoMemory>
 // Appends the old and the new state, as one text.
 #[tactic(auto, unfolding(crate::specs::Breaks::detail_text))]
 fn push_detail(text: &mut Vec<u8>, row: &Row) -> Result<(), NoMemory>
-    ensures { OnOk result (text.new.items ≡ text.old.items ++ detail_text row.now) }
+    ensures appended { OnOk result (text.new.items ≡ text.old.items ++ detail_text row.now) }
+    ensures named { IfErr result (λ e. e ≡ Allocation) }
 {
     push(text, b",\"detail\":")?;
     push_string(text, row.detail.as_slice())
@@ -122,7 +130,8 @@ fn push_entry_member(
     name: &str,
     offset: u64,
 ) -> Result<(), NoMemory>
-    ensures { OnOk result (text.new.items ≡ text.old.items ++ entry_member name.now offset) }
+    ensures appended { OnOk result (text.new.items ≡ text.old.items ++ entry_member name.now offset) }
+    ensures named { IfErr result (λ e. e ≡ Allocation) }
 {
     push(text, b",\"")?;
     push(text, name.as_bytes())?;
@@ -133,7 +142,8 @@ fn push_entry_member(
 // Appends the entries of both types.
 #[tactic(auto, unfolding(crate::specs::Breaks::entries_text))]
 fn push_entries(alloc: Global, text: &mut Vec<u8>, row: &Row) -> Result<(), NoMemory>
-    ensures { OnOk result (text.new.items ≡ text.old.items ++ entries_text row.now) }
+    ensures appended { OnOk result (text.new.items ≡ text.old.items ++ entries_text row.now) }
+    ensures named { IfErr result (λ e. e ≡ Allocation) }
 {
     push_entry_member(alloc, text, "old_entry", row.old_entry)?;
     push_entry_member(alloc, text, "new_entry", row.new_entry)?;
@@ -143,7 +153,8 @@ fn push_entries(alloc: Global, text: &mut Vec<u8>, row: &Row) -> Result<(), NoMe
 // Appends the object of a row.
 #[tactic(auto, unfolding(crate::specs::Breaks::row_text))]
 fn push_row(alloc: Global, text: &mut Vec<u8>, row: &Row) -> Result<(), NoMemory>
-    ensures { OnOk result (text.new.items ≡ text.old.items ++ row_text row.now) }
+    ensures appended { OnOk result (text.new.items ≡ text.old.items ++ row_text row.now) }
+    ensures named { IfErr result (λ e. e ≡ Allocation) }
 {
     push_rule(text, row)?;
     push_place(text, row)?;
@@ -154,7 +165,8 @@ fn push_row(alloc: Global, text: &mut Vec<u8>, row: &Row) -> Result<(), NoMemory
 
 // Appends the objects of further rows.
 fn push_others(alloc: Global, text: &mut Vec<u8>, rows: &[Row]) -> Result<(), NoMemory>
-    ensures { OnOk result (text.new.items ≡ text.old.items ++ flat_map (λ (r : AnyRow). codes "," ++ row_text r) rows.now) }
+    ensures appended { OnOk result (text.new.items ≡ text.old.items ++ flat_map (λ (r : AnyRow). codes "," ++ row_text r) rows.now) }
+    ensures named { IfErr result (λ e. e ≡ Allocation) }
 {
     for row in rows {
         push(text, b",")?;
@@ -165,7 +177,8 @@ fn push_others(alloc: Global, text: &mut Vec<u8>, rows: &[Row]) -> Result<(), No
 
 // Appends the objects of rows.
 fn push_rows(alloc: Global, text: &mut Vec<u8>, rows: &[Row]) -> Result<(), NoMemory>
-    ensures { OnOk result (text.new.items ≡ text.old.items ++ rows_text rows.now) }
+    ensures appended { OnOk result (text.new.items ≡ text.old.items ++ rows_text rows.now) }
+    ensures named { IfErr result (λ e. e ≡ Allocation) }
 {
     match rows {
         [] => Ok(()),
@@ -179,7 +192,8 @@ fn push_rows(alloc: Global, text: &mut Vec<u8>, rows: &[Row]) -> Result<(), NoMe
 // The array of the breaks, an object for each row.
 #[tactic(auto, unfolding(crate::specs::Breaks::breaks_text))]
 pub(crate) fn breaks_text(alloc: Global, rows: &[Row]) -> Result<Vec<u8>, NoMemory>
-    ensures { IfOk result (λ text. text.items ≡ spec.breaks_text rows.now) }
+    ensures made { IfOk result (λ text. text.items ≡ spec.breaks_text rows.now) }
+    ensures named { IfErr result (λ e. e ≡ Allocation) }
 {
     let mut text = Vec::new(alloc);
     push(&mut text, b"[")?;

@@ -1,5 +1,6 @@
 // Strings of JSON.
-ghost use Rattle.std.specs.Prelude.{◌≡◌, ◌<◌, ◌++◌, flat_map, OnOk};
+ghost use Rattle.std.specs.Prelude.{◌≡◌, ◌<◌, ◌++◌, flat_map, IfErr, OnOk};
+ghost use Rattle.abi_base.specs.declared.fault.NoMemory.TheVariants.{Allocation};
 ghost use Rattle.json_report.specs.Strings.{escaped, string_text};
 ghost use Rattle.json_report.specs.Strings as spec;
 
@@ -7,7 +8,8 @@ use abi_base::NoMemory;
 
 // Appends bytes.
 pub(crate) fn push(text: &mut Vec<u8>, bytes: &[u8]) -> Result<(), NoMemory>
-    ensures { OnOk result (text.new.items ≡ text.old.items ++ bytes.now) }
+    ensures appended { OnOk result (text.new.items ≡ text.old.items ++ bytes.now) }
+    ensures named { IfErr result (λ e. e ≡ Allocation) }
 {
     text.extend_from_slice(bytes)?;
     Ok(())
@@ -28,7 +30,8 @@ fn digit(number: u8) -> u8
 // Appends a byte of a string.
 #[tactic(auto, unfolding(crate::specs::Strings::escaped))]
 pub(crate) fn push_escaped(text: &mut Vec<u8>, byte: u8) -> Result<(), NoMemory>
-    ensures { OnOk result (text.new.items ≡ text.old.items ++ escaped byte) }
+    ensures appended { OnOk result (text.new.items ≡ text.old.items ++ escaped byte) }
+    ensures named { IfErr result (λ e. e ≡ Allocation) }
 {
     if byte == b'"' || byte == b'\\' {
         return push(text, &[b'\\', byte]);
@@ -42,7 +45,8 @@ pub(crate) fn push_escaped(text: &mut Vec<u8>, byte: u8) -> Result<(), NoMemory>
 
 // Appends the bytes of a string.
 fn push_all_escaped(text: &mut Vec<u8>, bytes: &[u8]) -> Result<(), NoMemory>
-    ensures { OnOk result (text.new.items ≡ text.old.items ++ flat_map escaped bytes.now) }
+    ensures appended { OnOk result (text.new.items ≡ text.old.items ++ flat_map escaped bytes.now) }
+    ensures named { IfErr result (λ e. e ≡ Allocation) }
 {
     for byte in bytes {
         push_escaped(text, *byte)?;
@@ -53,7 +57,8 @@ fn push_all_escaped(text: &mut Vec<u8>, bytes: &[u8]) -> Result<(), NoMemory>
 // Appends a string.
 #[tactic(auto, unfolding(crate::specs::Strings::string_text))]
 pub(crate) fn push_string(text: &mut Vec<u8>, bytes: &[u8]) -> Result<(), NoMemory>
-    ensures { OnOk result (text.new.items ≡ text.old.items ++ string_text bytes.now) }
+    ensures appended { OnOk result (text.new.items ≡ text.old.items ++ string_text bytes.now) }
+    ensures named { IfErr result (λ e. e ≡ Allocation) }
 {
     push(text, b"\"")?;
     push_all_escaped(text, bytes)?;

@@ -1,5 +1,6 @@
 // The values of breaks.
-ghost use Rattle.std.specs.Prelude.{◌≡◌, ◌++◌, OnOk};
+ghost use Rattle.std.specs.Prelude.{◌≡◌, ◌++◌, IfErr, OnOk};
+ghost use Rattle.abi_base.specs.declared.fault.NoMemory.TheVariants.{Allocation};
 ghost use Rattle.json_report.specs.Breaks.{number_text, part_text, unit_text, value_text, values_text, word_text};
 
 use crate::strings::{push, push_string};
@@ -10,7 +11,8 @@ use std::alloc::Global;
 // Appends the part of which a rule speaks, or null if there is none.
 #[tactic(auto, unfolding(crate::specs::Breaks::part_text))]
 fn push_part(text: &mut Vec<u8>, part: &[u8]) -> Result<(), NoMemory>
-    ensures { OnOk result (text.new.items ≡ text.old.items ++ part_text part.now) }
+    ensures appended { OnOk result (text.new.items ≡ text.old.items ++ part_text part.now) }
+    ensures named { IfErr result (λ e. e ≡ Allocation) }
 {
     if part.is_empty() {
         return push(text, b"null");
@@ -21,7 +23,8 @@ fn push_part(text: &mut Vec<u8>, part: &[u8]) -> Result<(), NoMemory>
 // Appends the unit after a value.
 #[tactic(auto, unfolding(crate::specs::Breaks::unit_text))]
 fn push_unit(text: &mut Vec<u8>, unit: &str) -> Result<(), NoMemory>
-    ensures { OnOk result (text.new.items ≡ text.old.items ++ unit_text unit.now) }
+    ensures appended { OnOk result (text.new.items ≡ text.old.items ++ unit_text unit.now) }
+    ensures named { IfErr result (λ e. e ≡ Allocation) }
 {
     push(text, b",\"unit\":\"")?;
     push(text, unit.as_bytes())?;
@@ -31,7 +34,8 @@ fn push_unit(text: &mut Vec<u8>, unit: &str) -> Result<(), NoMemory>
 // Appends a number with its unit.
 #[tactic(auto, unfolding(crate::specs::Breaks::number_text))]
 fn push_number(alloc: Global, text: &mut Vec<u8>, number: u64, unit: &str) -> Result<(), NoMemory>
-    ensures { OnOk result (text.new.items ≡ text.old.items ++ number_text unit.now number) }
+    ensures appended { OnOk result (text.new.items ≡ text.old.items ++ number_text unit.now number) }
+    ensures named { IfErr result (λ e. e ≡ Allocation) }
 {
     let digits = format!(in alloc; "{number}")?;
     push(text, b"{\"value\":")?;
@@ -42,7 +46,8 @@ fn push_number(alloc: Global, text: &mut Vec<u8>, number: u64, unit: &str) -> Re
 // Appends a word.
 #[tactic(auto, unfolding(crate::specs::Breaks::word_text))]
 fn push_word(text: &mut Vec<u8>, word: &[u8]) -> Result<(), NoMemory>
-    ensures { OnOk result (text.new.items ≡ text.old.items ++ word_text word.now) }
+    ensures appended { OnOk result (text.new.items ≡ text.old.items ++ word_text word.now) }
+    ensures named { IfErr result (λ e. e ≡ Allocation) }
 {
     push(text, b"{\"value\":")?;
     push_string(text, word)?;
@@ -51,7 +56,8 @@ fn push_word(text: &mut Vec<u8>, word: &[u8]) -> Result<(), NoMemory>
 
 // Appends a value with its unit, or null if there is none.
 fn push_value(alloc: Global, text: &mut Vec<u8>, value: &Value) -> Result<(), NoMemory>
-    ensures { OnOk result (text.new.items ≡ text.old.items ++ value_text value.now) }
+    ensures appended { OnOk result (text.new.items ≡ text.old.items ++ value_text value.now) }
+    ensures named { IfErr result (λ e. e ≡ Allocation) }
 {
     match value {
         Value::Nothing => push(text, b"null"),
@@ -66,7 +72,8 @@ fn push_value(alloc: Global, text: &mut Vec<u8>, value: &Value) -> Result<(), No
 /// Appends the part that the rule is about, and the old and the new value.
 #[tactic(auto, unfolding(crate::specs::Breaks::values_text))]
 pub(crate) fn push_values(alloc: Global, text: &mut Vec<u8>, row: &Row) -> Result<(), NoMemory>
-    ensures { OnOk result (text.new.items ≡ text.old.items ++ values_text row.now) }
+    ensures appended { OnOk result (text.new.items ≡ text.old.items ++ values_text row.now) }
+    ensures named { IfErr result (λ e. e ≡ Allocation) }
 {
     push(text, b",\"part\":")?;
     push_part(text, row.part.as_slice())?;

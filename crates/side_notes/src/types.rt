@@ -102,6 +102,9 @@ impl<'x, 'd, 'e> View for OnTypes<'x, 'd, 'e> {
 
     ghost shows = { λ v s beside. IsOnTypes v.old_dwarf.now v.new_dwarf.now s beside };
 
+    // Nothing is said of which limits the notes pass.
+    ghost passes = { λ v s limit. Unit {0} };
+
     fn view(&self, alloc: Global, compared: &Compared) -> Result<Beside, NoMemory> {
         let counts = counts_on(alloc, compared)?;
         let notes = notes_on(alloc, self, compared)?;

@@ -4,7 +4,7 @@ use Rattle.std.specs.Prelude.{◌≡◌, ℕ, List, [], ◌∷◌, Option, Some}
 use Rattle.abi_base.specs.declared.limit.Limit.{Limit}
 use Rattle.abi_base.specs.declared.remark.Remark.{Remark}
 use Rattle.abi_top.specs.Calls.{Call, Reads}
-use Rattle.abi_top.specs.Inputs.{any_limit, library_at, rules_at}
+use Rattle.abi_top.specs.Inputs.{library_at, rules_at}
 use Rattle.app_check.specs.Imports.{app_fault}
 use Rattle.cli_args.specs.Commands.{app}
 use Rattle.commands.specs.Commands.{Wanted, named}
@@ -12,6 +12,7 @@ use Rattle.commands.specs.declared.input.Input.TheVariants.{Old, New, App}
 use Rattle.commands.specs.declared.verdict.Verdict.{Verdict}
 use Rattle.commands.specs.declared.verdict.Verdict.TheVariants.{Yes, No, Refused, Done}
 use Rattle.library_check.specs.Applications.{AgreedFor, IsAppReportText, IsCompatibleFor, KeepsLeavesFor, uses_for}
+use Rattle.library_check.specs.Limits.{AppPasses}
 use Rattle.library_check.specs.Remarks.{remark_on}
 use Rattle.report.specs.Listening.{Voice}
 use Rattle.report.specs.declared.styles.report_option.ReportStyle.{ReportStyle}
@@ -29,7 +30,8 @@ AppSays voices program old new rules Refused text = ⊥
 AppSays voices program old new rules Done text = ⊥
 
 abbrev pub app_passes : List (List ℕ) → Limit → Type 0
-app_passes = any_limit
+app_passes (program ∷ old ∷ new ∷ rules ∷ []) limit = AppPasses program old new rules limit
+app_passes all limit = ⊥
 
 abbrev pub app_says : List Voice → List (List ℕ) → Verdict → Option Remark → List ℕ → Type 0
 app_says voices (program ∷ old ∷ new ∷ rules ∷ []) v untyped text = AppSays voices program old new rules v text × (untyped ≡ Some (remark_on old new))

@@ -4,7 +4,7 @@ use Rattle.std.specs.Prelude.{◌≡◌, ℕ, List, [], ◌∷◌, Option, None}
 use Rattle.abi_base.specs.declared.limit.Limit.{Limit}
 use Rattle.abi_base.specs.declared.remark.Remark.{Remark}
 use Rattle.abi_top.specs.Calls.{Call, Reads}
-use Rattle.abi_top.specs.Inputs.{any_limit, library_at}
+use Rattle.abi_top.specs.Inputs.{library_at}
 use Rattle.abi_top.specs.Text.{no_tag_text}
 use Rattle.cli_args.specs.Commands.{layout}
 use Rattle.commands.specs.Commands.{Wanted, named}
@@ -13,6 +13,7 @@ use Rattle.commands.specs.declared.verdict.Verdict.{Verdict}
 use Rattle.commands.specs.declared.verdict.Verdict.TheVariants.{Yes, No, Refused, Done}
 use Rattle.library_layout.specs.Covers.{CoversEachBit}
 use Rattle.library_layout.specs.Layouts.{HasNoTag, IsLayoutText}
+use Rattle.library_layout.specs.Limits.{LayoutPasses}
 
 abbrev pub layout_inputs : List ℕ → List Wanted
 layout_inputs library = library_at Library (named library) ∷ []
@@ -23,8 +24,9 @@ LayoutSays library tag Refused text = HasNoTag library tag × (text ≡ no_tag_t
 LayoutSays library tag Yes text = ⊥
 LayoutSays library tag No text = ⊥
 
-abbrev pub layout_passes : List (List ℕ) → Limit → Type 0
-layout_passes = any_limit
+abbrev pub layout_passes : List ℕ → List (List ℕ) → Limit → Type 0
+layout_passes tag (library ∷ []) limit = LayoutPasses library tag limit
+layout_passes tag all limit = ⊥
 
 abbrev pub layout_says : List ℕ → List (List ℕ) → Verdict → Option Remark → List ℕ → Type 0
 layout_says tag (library ∷ []) v untyped text = LayoutSays library tag v text × (untyped ≡ None)

@@ -4,7 +4,7 @@ use Rattle.std.specs.Prelude.{◌≡◌, ℕ, List, [], ◌∷◌, Option, None}
 use Rattle.abi_base.specs.declared.limit.Limit.{Limit}
 use Rattle.abi_base.specs.declared.remark.Remark.{Remark}
 use Rattle.abi_top.specs.Calls.{Call, Reads}
-use Rattle.abi_top.specs.Inputs.{any_limit, certificate_at, library_at, rules_at}
+use Rattle.abi_top.specs.Inputs.{certificate_at, library_at, rules_at}
 use Rattle.abi_top.specs.Text.{accepted_text, refused_text}
 use Rattle.cert_check.specs.declared.refused.Refused.{Refused as Refusal}
 use Rattle.cli_args.specs.Commands.{verify}
@@ -13,6 +13,7 @@ use Rattle.commands.specs.declared.input.Input.TheVariants.{Old, New, Certificat
 use Rattle.commands.specs.declared.verdict.Verdict.{Verdict}
 use Rattle.commands.specs.declared.verdict.Verdict.TheVariants.{Yes, No, Refused, Done}
 use Rattle.library_check.specs.Checks.{Agreed, Compatible, KeepsLeaves}
+use Rattle.library_check.specs.Limits.{VerifyPasses}
 use Rattle.library_check.specs.Relations.{IsRelationText}
 use Rattle.library_check.specs.Verifications.{IsAcceptedText, IsRefusedText}
 
@@ -27,7 +28,8 @@ VerifySays old new rules certificate No text = ⊥
 VerifySays old new rules certificate Done text = ⊥
 
 abbrev pub verify_passes : List (List ℕ) → Limit → Type 0
-verify_passes = any_limit
+verify_passes (old ∷ new ∷ rules ∷ certificate ∷ []) limit = VerifyPasses old new rules certificate limit
+verify_passes all limit = ⊥
 
 abbrev pub verify_says : List (List ℕ) → Verdict → Option Remark → List ℕ → Type 0
 verify_says (old ∷ new ∷ rules ∷ certificate ∷ []) v untyped text = VerifySays old new rules certificate v text × (untyped ≡ None)

@@ -12,4 +12,4 @@ returns-clause-readable g c =
 pub returns-clause-stops : goal.returns-clause-stops
 returns-clause-stops g c =
     let asks = asks_of (layout_inputs c.args.self.words.library.now) in
-    subst (λ (l : List (List ℕ)). IfErr c.lay_out.result (StopsAt asks layout_passes l)) (sym c.one.ensures) (c.lay_out.ensures.stops c.args.self.words.library.now)
+    subst (λ (l : List (List ℕ)). IfErr c.lay_out.result (StopsAt asks (layout_passes c.args.self.words.tag.now) l)) (sym c.one.ensures) (c.lay_out.ensures.stops c.args.self.words.library.now)
