@@ -130,6 +130,8 @@ wrong "--loud: it is no option; the options are --rules FILE and --report STYLE"
 wrong "--rules: the option has no value" check plain.so plain.so --rules
 wrong "--rules=plain.so: the option is given twice" check --rules=plain.so plain.so --rules plain.so plain.so
 wrong "--help=all: the option takes no value" --help=all
+wrong "an argument is not UTF-8; only files whose names are UTF-8 can be given" check plain.so $'\xff.so'
+wrong "an argument is not UTF-8; only files whose names are UTF-8 can be given" $'\xff'
 
 # ---- files of other kinds
 
@@ -463,6 +465,18 @@ for made in pie exporting; do
     [ "$(grep -cx "abi: $made: $program_words" errors)" -eq 1 ] || fail "of $made twice it says: $(cat errors)"
     passed "$made: $program_words"
 done
+# A program with a fault is told to be one, too, where a library is expected. This one has no section table.
+cp pie faulty
+patched faulty 40 '\0\0\0\0\0\0\0\0'
+for call in "check faulty plain.so" "check plain.so faulty" "check faulty faulty" "app pie faulty plain.so" "app pie plain.so faulty"; do
+    run $call
+    [ "$ended" -eq 2 ] && [ "$(wc -l <errors)" -eq 2 ] || fail "of $call: status $ended, $(cat errors)"
+    [ "$(tail -n 1 errors)" = "abi: faulty: $program_words" ] || fail "of $call it says: $(cat errors)"
+done
+passed "a program with a fault: $program_words"
+run app faulty plain.so plain.so
+[ "$ended" -eq 2 ] && [ "$(wc -l <errors)" -eq 1 ] || fail "of an application with a fault it says: $(cat errors)"
+passed "an application may be a program"
 for made in plain.so interpreted.so; do
     run check $made $made
     ! grep "it is a program" errors || fail "$made is a program"

@@ -11,6 +11,7 @@ use crate::notes::notes_of;
 use crate::output::Output;
 use abi_base::{FileInputs, NoMemory};
 use abi_top::{Ended, Outcome, run};
+use explain::encoding_sentence;
 use report::{CountsListener, FirstListener, Listener, TableListener, TextListener, add_listener};
 use std::io::{ErrorKind, IsTerminal};
 use std::process::ExitCode;
@@ -22,24 +23,44 @@ fn main(rt: HostRuntime) -> ExitCode {
     ExitCode::from(outcome_of_process(&rt, is_terminal).number())
 }
 
-// Arguments that are not UTF-8 are replaced by none, which makes them wrong arguments.
 fn outcome_of_process<R: Files + Print + Eprint + Env + AllocGlobal>(
     rt: &R,
     is_terminal: bool,
 ) -> Outcome {
     let arguments = match arguments_of(rt) {
         Ok(arguments) => arguments,
-        Err(error) => {
-            if error.kind() == ErrorKind::OutOfMemory {
-                return Outcome::NoMemory(NoMemory::Allocation);
-            }
-            Vec::new(rt.alloc())
-        }
+        Err(error) => return outcome_without_arguments(rt, &error),
     };
     match outcome_of(rt, &arguments, are_wanted(rt, is_terminal)) {
         Ok(outcome) => outcome,
         Err(cause) => Outcome::NoMemory(cause),
     }
+}
+
+// The outcome where the arguments cannot be read: memory ran out, or one is not UTF-8.
+fn outcome_without_arguments<R: Files + Print + Eprint + AllocGlobal>(
+    rt: &R,
+    error: &io::Error,
+) -> Outcome {
+    if error.kind() == ErrorKind::OutOfMemory {
+        Outcome::NoMemory(NoMemory::Allocation)
+    } else {
+        outcome_of_other_bytes(rt)
+    }
+}
+
+// Answers arguments that are not all UTF-8 as if there were none, which prints the usage, and tells why.
+fn outcome_of_other_bytes<R: Files + Print + Eprint + AllocGlobal>(rt: &R) -> Outcome {
+    let alloc = rt.alloc();
+    let mut inputs = FileInputs::new(rt);
+    let mut sink = Output::new(rt);
+    let ended = run(alloc, &[], &mut inputs, &mut sink, Vec::new(alloc));
+    if !sink.is_closed()
+        && let Ok(sentence) = encoding_sentence(alloc)
+    {
+        let _ = eprintln!(rt; "abi: {sentence}");
+    }
+    ended.outcome
 }
 
 // The arguments after the program's name.
@@ -86,7 +107,7 @@ fn run_words<R: Files + Print + Eprint + AllocGlobal>(
     let mut inputs = FileInputs::new(rt);
     let mut sink = Output::new(rt);
     let ended = run(alloc, words, &mut inputs, &mut sink, listeners);
-    // Nobody is told that nobody reads.
+    // Nothing is told if the reader closed the pipe.
     if !sink.is_closed() {
         tell(rt, words, &ended, sink.first());
     }

@@ -16,7 +16,7 @@ use crate::words::words_of;
 use abi_base::{FileInputs, NoMemory, StdSink, write_all};
 use commands::Outcome;
 use document_head::Wanted;
-use explain::memory_sentence;
+use explain::{encoding_sentence, memory_sentence};
 use std::io::ErrorKind;
 use std::process::ExitCode;
 use std::rt::{Env, Files};
@@ -26,7 +26,6 @@ fn main(rt: HostRuntime) -> ExitCode {
     ExitCode::from(outcome_of_process(&rt).number())
 }
 
-// Arguments that are not UTF-8 are replaced by none, which makes them wrong arguments.
 fn outcome_of_process<R: Files + Print + Eprint + Env + AllocGlobal>(rt: &R) -> Outcome {
     let arguments = match arguments_of(rt) {
         Ok(arguments) => arguments,
@@ -34,6 +33,7 @@ fn outcome_of_process<R: Files + Print + Eprint + Env + AllocGlobal>(rt: &R) -> 
             if error.kind() == ErrorKind::OutOfMemory {
                 return Outcome::NoMemory(NoMemory::Allocation);
             }
+            say_encoding(rt);
             Vec::new(rt.alloc())
         }
     };
@@ -43,6 +43,13 @@ fn outcome_of_process<R: Files + Print + Eprint + Env + AllocGlobal>(rt: &R) -> 
             say_cause(rt, cause);
             Outcome::NoMemory(cause)
         }
+    }
+}
+
+// Says on standard error that an argument is not UTF-8. Such arguments are answered as if there were none, which is wrong.
+fn say_encoding<R: Eprint + AllocGlobal>(rt: &R) {
+    if let Ok(sentence) = encoding_sentence(rt.alloc()) {
+        let _ = eprintln!(rt; "abi-json: {sentence}");
     }
 }
 
