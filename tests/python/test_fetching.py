@@ -195,8 +195,9 @@ def test_a_mirror_stands_for_the_sources_of_apt(versions: dict[str, Version], tm
     new = versions["1:1.10-1+deb12u1"].package
     ended = packages(tmp_path, "--fetch", new)
     assert ended.status == 2 and "no earlier version of libshapes1 1:1.10-1+deb12u1 amd64: name the old packages" in ended.errors, ended
-    ended = packages(tmp_path, "--fetch", "--mirror", (tmp_path / "line").read_text(), new)
-    assert ended.status == 0, ended
+    for word in ("", "deb "):
+        ended = packages(tmp_path, "--fetch", "--mirror", f"{word}{(tmp_path / 'line').read_text()}", new)
+        assert ended.status == 0, ended
     ended = packages(tmp_path, "--fetch", "--mirror", f"[trusted=yes] file:{tmp_path}/none ./", new)
     assert ended.status == 2 and ended.errors.startswith("abi-packages: apt-get: "), ended
 

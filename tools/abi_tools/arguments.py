@@ -70,6 +70,15 @@ def address(text: str) -> str:
     return text
 
 
+def mirror_line(text: str) -> str:
+    """A line of sources.list(5), without the word `deb`. Raises an argument error for any other text."""
+    line = text.strip().removeprefix("deb ").strip()
+    _, _, behind = line.rpartition("] ") if line.startswith("[") else ("", "", line)
+    if len(behind.split()) < 2:
+        raise argparse.ArgumentTypeError(f"{text} is no line of sources.list(5): it needs an address and a suite")
+    return line
+
+
 class ShowLimits(argparse.Action):
     """Prints the limits of the tools, and ends the program."""
 

@@ -12,7 +12,7 @@ from pathlib import Path
 from typing import Callable, Iterator, NamedTuple, Optional, Sequence
 
 from abi_tools.abi_program import Abi
-from abi_tools.arguments import Arguments, ShowLimits, add_require_types, add_strict, address, number_above_0
+from abi_tools.arguments import Arguments, ShowLimits, add_require_types, add_strict, address, mirror_line, number_above_0
 from abi_tools.counting import counted
 from abi_tools.debuginfod import Debuginfod
 from abi_tools.faults import Fault
@@ -88,7 +88,7 @@ def _parser() -> Arguments:
     parser.add_argument("--fetch", action="store_true",
                         help="fetch what is not given by way of apt: the packages of debug information and, without --, the previous "
                              "versions of the packages, which are then those of the new build")
-    parser.add_argument("--mirror", action="append", default=[], metavar="LINE",
+    parser.add_argument("--mirror", action="append", default=[], type=mirror_line, metavar="LINE",
                         help="where --fetch looks in place of the sources of apt: a line of sources.list(5) without the word deb, such as "
                              "'http://deb.debian.org/debian bookworm main'; may be given several times")
     parser.add_argument("--debuginfod", action="append", default=[], type=address, metavar="URL",
