@@ -102,6 +102,15 @@ def is_used(name: str, words: frozenset[str], text: str) -> bool:
     return name in words if "◌" not in name else all(sign in text for sign in signs)
 
 
+def named_by(name: str, target: Named, text: str) -> Iterator[Named]:
+    """What an imported name stands for in a text: of the alias of a file of specs/, the names behind its dot; else the name itself."""
+    if target.name or path_of(target.module) is None:
+        yield target
+    else:
+        for behind in sorted(set(re.findall(rf"\b{re.escape(name)}\.([A-Za-z_][\w']*)", text))):
+            yield Named(target.module, behind)
+
+
 def used_by(text: str, module: Module) -> Iterator[Named]:
     """The names of a module, its own and those that it imports, that a text uses."""
     code = re.sub(r"--[^\n]*", "", text)
@@ -113,4 +122,4 @@ def used_by(text: str, module: Module) -> Iterator[Named]:
             yield Named(here, name)
     for name, target in module.imports.items():
         if is_used(name, words, code):
-            yield target
+            yield from named_by(name, target, code)

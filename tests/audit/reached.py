@@ -9,7 +9,7 @@ from functools import cache
 from pathlib import Path
 from typing import Iterator
 
-from .definitions import CRATES, ROOT, Definition, Named, imports_of, is_used, path_of, read_module, used_by
+from .definitions import CRATES, ROOT, Definition, Named, imports_of, is_used, named_by, path_of, read_module, used_by
 
 TOP = ROOT / "crates" / "abi_top" / "src" / "top.rt"
 
@@ -123,7 +123,8 @@ class Walk:
         words = frozenset(re.findall(r"\w+", text))
         for name, target in imports_of(source).items():
             if is_used(name, words, text):
-                self.meet(target)
+                for named in named_by(name, target, text):
+                    self.meet(named)
 
     def run(self) -> Reached:
         """Walks to the end."""
