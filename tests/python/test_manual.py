@@ -223,7 +223,7 @@ def sources(tmp_path: Path, monkeypatch: pytest.MonkeyPatch) -> Path:
     for name in ("install.sh", "crates.txt", "HANDLES", "tools", "share", "docs", "examples", "README.md", "CHANGELOG.md", "LICENSE"):
         done("cp", "-r", ROOT / name, tmp_path / name)
     for crate in re.findall(r"^(\w+):", (ROOT / "crates.txt").read_text(), re.MULTILINE):
-        (tmp_path / "crates" / crate).mkdir(parents=True)
+        (tmp_path / "crates" / crate / "src").mkdir(parents=True)
     kit = tmp_path / "kit"
     (kit / "c").mkdir(parents=True)
     (kit / "rt").write_text(_TOOLCHAIN)
