@@ -99,6 +99,19 @@ def abi(*arguments: object) -> Ended:
     return run(os.environ["ABI"], *arguments)
 
 
+def path_without_tools(folder: Path) -> str:
+    """The PATH without what an installed package of `abi` has there: if there is one, a folder with links to all other programs."""
+    if shutil.which("abi-gate") is None:
+        return os.environ["PATH"]
+    for place in map(Path, os.get_exec_path()):
+        for program in place.iterdir() if place.is_dir() else ():
+            link = folder / program.name
+            if not re.match("abi(-|$)|join-debug$|dh_abi$", program.name) and not link.is_symlink():
+                folder.mkdir(parents=True, exist_ok=True)
+                link.symlink_to(program)
+    return str(folder)
+
+
 def refused(ended: Ended, status: int, words: str, output: Path) -> None:
     """Checks that a tool ended with the status and one sentence with these words, and left no output file."""
     assert ended.status == status, ended

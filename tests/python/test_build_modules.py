@@ -8,7 +8,7 @@ from pathlib import Path
 
 import pytest
 
-from conftest import ROOT, TOOLS, Ended, done, needs, run, tool
+from conftest import ROOT, TOOLS, Ended, done, needs, path_without_tools, run, tool
 
 SOURCE = (ROOT / "examples/stream/stream.c").read_text()
 BREAK = SOURCE.replace("unsigned char *next;", "unsigned char *next; long position;")
@@ -57,7 +57,7 @@ def prefix(tmp_path: Path, monkeypatch: pytest.MonkeyPatch) -> Path:
     for name in ("abi-gate", "abi-baseline"):
         (folder / "bin" / name).symlink_to(TOOLS / name)
     shutil.copytree(ROOT / "share", folder / "share")
-    monkeypatch.setenv("PATH", f"{folder / 'bin'}:{os.environ['PATH']}")
+    monkeypatch.setenv("PATH", f"{folder / 'bin'}:{path_without_tools(tmp_path / 'others/bin')}")
     monkeypatch.delenv("ABI")
     return folder
 
@@ -146,8 +146,10 @@ def test_cmake_module_without_programs(prefix: Path, tmp_path: Path, monkeypatch
     (folder / "stream.c").write_text(SOURCE)
     text = CMAKE.replace("Abi REQUIRED)", "Abi)\nif(Abi_FOUND)") + "endif()\n"
     (folder / "CMakeLists.txt").write_text(text)
-    ended = run("cmake", "-S", folder, "-B", folder / "build")
+    # not in the folders of the system, where a package of abi may be installed
+    words = ("cmake", "-S", folder, "-B", folder / "build", "-DCMAKE_FIND_USE_CMAKE_SYSTEM_PATH=OFF")
+    ended = run(*words)
     assert ended.status == 0 and "there is no abi-gate" in ended.out + ended.errors, ended
     (folder / "CMakeLists.txt").write_text(CMAKE)
-    ended = run("cmake", "-S", folder, "-B", folder / "build")
+    ended = run(*words)
     assert ended.status != 0 and "Abi" in ended.errors, ended

@@ -11,7 +11,7 @@ from typing import Callable, Iterator
 
 import pytest
 import yaml  # type: ignore[import]
-from conftest import ROOT, TOOLS, Ended, done, needs, run, tool
+from conftest import ROOT, TOOLS, Ended, done, needs, path_without_tools, run, tool
 
 EXAMPLES = ROOT / "examples"
 # Lines of the tools in the log of a build.
@@ -27,7 +27,7 @@ def project(tmp_path: Path, monkeypatch: pytest.MonkeyPatch) -> Iterator[Path]:
     programs.mkdir()
     (programs / "abi").symlink_to(Path(os.environ["ABI"]).resolve())
     (programs / "abi-json").symlink_to(Path(os.environ["ABI_JSON"]).resolve())
-    monkeypatch.setenv("PATH", f"{programs}:{TOOLS}:{os.environ['PATH']}")
+    monkeypatch.setenv("PATH", f"{programs}:{TOOLS}:{path_without_tools(tmp_path / 'others/bin')}")
     monkeypatch.delenv("ABI")
     monkeypatch.delenv("ABI_JSON")
     folder = tmp_path / "stream"
@@ -449,6 +449,7 @@ def test_cmake(project: Path, prefix: Path, tmp_path: Path) -> None:
 def test_cmake_without_the_module(project: Path, tmp_path: Path) -> None:
     needs("cmake")
     shutil.copy(EXAMPLES / "cmake/CMakeLists.txt", project)
-    ended = run("cmake", "-S", project, "-B", tmp_path / "build")
+    # not in the folders of the system, where a package of abi may be installed
+    ended = run("cmake", "-S", project, "-B", tmp_path / "build", "-DCMAKE_FIND_USE_CMAKE_SYSTEM_PATH=OFF")
     assert ended.status != 0 and "Abi" in ended.errors, ended
     done("cmake", "-S", project, "-B", tmp_path / "build", "-DSTREAM_ABI=OFF")
