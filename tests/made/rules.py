@@ -84,4 +84,4 @@ def idle(runs: Runs, cell: str, soname: str = "lib.so.1") -> str:
     for name, file in {"old": data, "new": data + b"\0", "rules": text_of(cell)}.items():
         runs.write(name, file)
     notes = runs.notes("check", "--rules", "rules", "old", "new")
-    return ", ".join(note.removeprefix("idle section: was ") for note in notes if note.startswith("idle section: "))
+    return ", ".join(note.removeprefix("idle section: ") for note in notes if note.startswith("idle section: "))

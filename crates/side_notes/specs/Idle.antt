@@ -23,7 +23,7 @@ unfoldable pub shown_section : PlainSection → List ℕ
 shown_section section = shown_head section.kind ++ flat_map shown_property section.properties
 
 abbrev pub idle_note : PlainSection → Note
-idle_note section = note_on_export IdleSection [] (shown_section section) []
+idle_note section = note_on_export IdleSection [] [] (shown_section section)
 
 -- a note on each section that holds of nothing in the library
 unfoldable pub idle_notes : PlainRules → PlainLibrary → List Note

@@ -93,13 +93,13 @@ fn section_text(alloc: Global, section: &Section) -> Result<List<u8>, NoMemory>
 fn push_section(alloc: Global, notes: &mut List<Note>, section: &Section) -> Result<(), NoMemory>
     ensures { OnOk result (notes.new ≡ notes.old ++ idle_note section.now ∷ []) }
 {
-    let was = section_text(alloc, section)?;
+    let is = section_text(alloc, section)?;
     notes.push(note_on(
         alloc,
         NoteKind::IdleSection,
         List::new(alloc),
-        was,
         List::new(alloc),
+        is,
     ))
 }
 
