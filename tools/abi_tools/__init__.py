@@ -4,4 +4,4 @@ Nothing here judges a library. `abi` does, and the tools show its answer.
 """
 
 # The release of which the tools are a part (CHANGELOG.md).
-VERSION = "0.1.0"
+VERSION = "0.2.0"
