@@ -321,6 +321,24 @@ def test_an_update_says_what_cannot_be_compared(package: Path) -> None:
     assert judged(package, "-Xlibplus.so.1").status == 0
 
 
+def test_no_recommended_package_is_needed(package: Path, tmp_path: Path, monkeypatch: pytest.MonkeyPatch) -> None:
+    """Python cannot import what the package abi recommends or suggests; yes, no and --update are as with these."""
+    modules = ("libarchive", "zstandard", "debian", "jinja2", "rich", "distributed", "cryptography")
+    (tmp_path / "sitecustomize.py").write_text(f"import sys\nsys.modules.update(dict.fromkeys({modules}))\n")
+    monkeypatch.setenv("PYTHONPATH", str(tmp_path))
+    for module in modules:
+        assert run("/usr/bin/python3", "-c", f"import {module}", folder=tmp_path).status == 1, module
+    installed(package)
+    assert done("dh_abi", "--update", folder=package).startswith("kept ")
+    ended = judged(package)
+    assert ended.status == 0 and "yes: 2 exports compared, 2 with types" in ended.out, ended
+    write(package, {"stream.c": BREAK})
+    installed(package)
+    ended = judged(package)
+    assert ended.status != 0 and "struct stream\n  L2      size: 16 -> 24 bytes\n" in ended.out, ended
+    assert_stopped(ended, "libstream.so.1: no")
+
+
 def test_versions_of_symbols_to_raise_are_named(released: Path, monkeypatch: pytest.MonkeyPatch) -> None:
     """`struct stream` has a hole of four bytes at its end, which gets a member. All exports that lead to it are named, and those that lead
     to what the rule file leaves out are not."""
