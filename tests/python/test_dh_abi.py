@@ -226,6 +226,8 @@ def test_options_of_debhelper(released: Path, monkeypatch: pytest.MonkeyPatch) -
     assert judged(released, "-Xlibstream.so").status == 0
     ended = judged(released, "--no-act", "--verbose")
     assert ended.status == 0 and "abi-gate --require-types 90" in ended.out, ended
+    # The files of the run before are there, and say nothing of this one.
+    assert (released / KEPT / "libstream.so.1.answer").read_text().startswith("no\n") and "L7 stream_left" not in ended.out, ended
     judged(released, "--no-act", "--update")
     assert (released / BASELINE).read_bytes() == baseline
     monkeypatch.setenv("DEB_BUILD_OPTIONS", "nocheck")
