@@ -133,7 +133,7 @@ for source in "$@"; do
     apt-get build-dep -o DPkg::Lock::Timeout=600 -y -q --no-install-recommends -P nobiarch "$source" >>"$source.fetched"
     dpkg-source -x "$source"_*.dsc "$source-tree" >>"$source.fetched"
     (cd "$source-tree" && prepared "$source")
-    build "$source" first fails 'cannot tell: there is no debian/abi/.*\.abi'
+    build "$source" first fails 'cannot tell: there is no baseline debian/abi/.*\.abi'
     (cd build/first && dh_abi --update)
     cp -a build/first/debian/abi "$source-tree/debian/abi"
     echo "$source: baselines: $(cd "$source-tree/debian/abi" && ls | paste -s -d ' ')"
@@ -141,7 +141,7 @@ for source in "$@"; do
     rm -rf packages && mkdir packages && mv build/*.deb packages && checked "$source" packages
     build "$source" broken fails 'dh_abi: warning: no: .* may not replace the released one; the report is '
     DEB_CFLAGS_STRIP=-g build "$source" without_g fails 'dh_abi: warning: cannot tell whether .* may replace the released one; the report is '
-    build "$source" renamed fails 'cannot tell: there is no debian/abi/.*\.abi'
+    build "$source" renamed fails 'cannot tell: there is no baseline debian/abi/.*\.abi'
     DEB_BUILD_OPTIONS=nocheck build "$source" nocheck passes 'dpkg-deb: building package'
     rm -rf "$source-tree" build
     dpkg-source -x "$source"_*.dsc "$source-tree" >>"$source.fetched"

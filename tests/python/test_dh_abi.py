@@ -100,11 +100,21 @@ def installed(folder: Path, *options: str) -> None:
         path.rename(library / path.name)
 
 
+def assert_stopped(ended: Ended, *libraries: str) -> None:
+    """The last lines before the error name each library that stops the build, with its answer."""
+    lines = [line for line in ended.errors.splitlines() if line.startswith("dh_abi: ")]
+    error = lines.index("dh_abi: error: a library may not replace the released one, or it cannot be told")
+    assert lines[error - len(libraries):error] == [f"dh_abi: warning: stopped: {library}" for library in libraries], ended
+    assert ended.errors.count("stopped: ") == len(libraries), ended
+
+
 def test_a_package_from_its_first_build_to_a_break(package: Path, tmp_path: Path) -> None:
     """The first build fails, since no interface is released; the build of the next release passes, and that of a break fails."""
     ended = build(package)
-    assert ended.status != 0 and f"cannot tell: there is no {BASELINE}" in ended.errors, ended
-    done("dh_abi", "--update", folder=package)
+    words = (f"cannot tell: there is no baseline {BASELINE} for libstream.so.1 of libstream1: if this tree is the last released version, "
+             'run "dh_abi --update"; if not, run it in that tree and copy debian/abi here\n')
+    assert ended.status != 0 and words in ended.errors and "stopped: libstream.so.1: cannot tell\n" in ended.errors, ended
+    assert done("dh_abi", "--update", folder=package) == f"kept libstream.so.1: {BASELINE}, 2 exports, 2 with types\n"
     write(package, {"debian/abi.rules": "[suppress_type]\nname = inside\n",
                     "stream.c": SOURCE.replace("int a;", "long a;") + "int one(void) { return 1; }\n"})
     ended = build(package)
@@ -122,9 +132,12 @@ def test_a_package_from_its_first_build_to_a_break(package: Path, tmp_path: Path
     write(package, {"stream.c": BREAK})
     ended = build(package)
     report = package / KEPT / "libstream.so.1.report"
-    assert ended.status != 0 and "L7 stream_left param 1 / target: member left" in ended.out, ended
+    assert ended.status != 0 and "struct stream\n  L2      size: 16 -> 24 bytes\n" in ended.out, ended
+    assert "L7 stream_left param 1 / target: member left" not in ended.out
+    assert "L7 stream_left param 1 / target: member left" in report.with_suffix(".answer").read_text()
     assert f"no: libstream.so.1 of libstream1 may not replace the released one; the report is {report.relative_to(package)}" in ended.errors
-    assert "struct stream" in report.read_text()
+    assert report.read_text() in ended.out
+    assert_stopped(ended, "libstream.so.1: no")
     assert not (package / KEPT / "libstream.so.1.cert").exists()
 
 
@@ -183,8 +196,9 @@ def test_a_lost_option_for_debug_information_cannot_be_told(released: Path) -> N
     ended = judged(released)
     words = "cannot tell whether libstream.so.1 of libstream1 may replace the released one"
     assert ended.status != 0 and words in ended.errors and "no debug information" in ended.out, ended
+    assert_stopped(ended, "libstream.so.1: cannot tell")
     ended = judged(released, "--allow-cannot-tell")
-    assert ended.status == 0 and words in ended.errors, ended
+    assert ended.status == 0 and words in ended.errors and "stopped" not in ended.errors, ended
     assert not list(released.rglob("*.cert"))
 
 
@@ -192,8 +206,9 @@ def test_a_changed_soname_is_told(released: Path) -> None:
     (released / "debian/libstream1/usr/lib/x86_64-linux-gnu/libstream.so.1").unlink()
     installed(released, "SONAME=libstream.so.2")
     ended = judged(released)
-    assert ended.status != 0 and "there is no debian/abi/libstream.so.2.abi" in ended.errors, ended
+    assert ended.status != 0 and "there is no baseline debian/abi/libstream.so.2.abi" in ended.errors, ended
     assert f"no: no library of the packages has the soname of {BASELINE}" in ended.errors
+    assert_stopped(ended, "libstream.so.2: cannot tell", "libstream.so.1: no")
     done("dh_abi", "--update", folder=released)
     assert [path.name for path in (released / "debian/abi").iterdir()] == ["libstream.so.2.abi"]
     assert judged(released).status == 0
@@ -211,6 +226,8 @@ def test_options_of_debhelper(released: Path, monkeypatch: pytest.MonkeyPatch) -
     assert judged(released, "-Xlibstream.so").status == 0
     ended = judged(released, "--no-act", "--verbose")
     assert ended.status == 0 and "abi-gate --require-types 90" in ended.out, ended
+    # The files of the run before are there, and say nothing of this one.
+    assert (released / KEPT / "libstream.so.1.answer").read_text().startswith("no\n") and "L7 stream_left" not in ended.out, ended
     judged(released, "--no-act", "--update")
     assert (released / BASELINE).read_bytes() == baseline
     monkeypatch.setenv("DEB_BUILD_OPTIONS", "nocheck")
@@ -232,10 +249,96 @@ def test_an_error_is_no_answer(released: Path, tmp_path: Path, monkeypatch: pyte
         gate.chmod(0o755)
         ended = judged(released, "--allow-cannot-tell")
         assert ended.status != 0 and words in ended.errors, ended
+    gate.write_text("#!/bin/sh\necho words of the gate\nexit 3\n")
+    ended = judged(released)
+    assert "words of the gate\n" in ended.out, ended
+    assert_stopped(ended, "libstream.so.1: no answer")
     gate.unlink()
     monkeypatch.setenv("ABI", str(tmp_path / "none"))
     ended = judged(released)
     assert ended.status != 0 and "there is no program" in ended.out + ended.errors, ended
+
+
+def test_without_a_report_the_log_has_the_answer(released: Path, tmp_path: Path, monkeypatch: pytest.MonkeyPatch) -> None:
+    """Stand-ins of abi-report that end as it never does on this break, or say something else than abi-gate."""
+    report = tmp_path / "stand-ins/abi-report"
+    report.parent.mkdir()
+    monkeypatch.setenv("PATH", f"{report.parent}:{os.environ['PATH']}")
+    write(released, {"stream.c": BREAK})
+    installed(released)
+    for status, words in ((0, "abi-report wrote no report"), (2, "the report is debian/"), (3, "abi-report wrote no report")):
+        report.write_text(f"#!/bin/sh\necho other words\nexit {status}\n")
+        report.chmod(0o755)
+        ended = judged(released)
+        assert ended.status != 0 and words in ended.errors and "L7 stream_left param 1 / target: member left" in ended.out, ended
+        assert "other words" not in ended.out
+        assert_stopped(ended, "libstream.so.1: no")
+
+
+def test_a_long_report_is_cut_in_the_log(released: Path) -> None:
+    """The log has 200 lines of it, and where the whole is."""
+    more = "".join(f"struct s{number} {{ int a; }};\nint f{number}(struct s{number} *s) {{ return s->a + {number}; }}\n"
+                   for number in range(100))
+    write(released, {"stream.c": SOURCE + more})
+    installed(released)
+    done("dh_abi", "--update", folder=released)
+    write(released, {"stream.c": SOURCE + more.replace("int a;", "int a, b;")})
+    installed(released)
+    ended = judged(released)
+    report = f"{KEPT}/libstream.so.1.report"
+    lines = (released / report).read_text().splitlines()
+    assert len(lines) > 300 and ended.out.splitlines() == [*lines[:200], f"and {len(lines) - 200} more lines: the whole is {report}"], ended
+
+
+def test_idle_sections_are_named_on_no(released: Path) -> None:
+    """`name = struct stream` matches nothing; the section beside it does."""
+    write(released, {"stream.c": BREAK,
+                     "debian/abi.rules": "[suppress_type]\nname = struct stream\n\n[suppress_type]\nname = inside\n"})
+    installed(released)
+    ended = judged(released)
+    words = ("debian/abi.rules: a section matches nothing: [suppress_type] name=struct stream: "
+             "the name of a type is its tag alone, without struct\n")
+    assert ended.status != 0 and words in ended.errors and ended.errors.count("matches nothing") == 1, ended
+    assert_stopped(ended, "libstream.so.1: no")
+    write(released, {"debian/abi.rules": "[suppress_type]\nname = stream\naccessed_through = pointer\n"})
+    ended = judged(released)
+    assert ended.status == 0 and "matches nothing" not in ended.errors, ended
+
+
+def test_an_update_says_what_cannot_be_compared(package: Path) -> None:
+    """A library in C++, beside one in C. -X leaves it out, and takes its baseline away."""
+    needs("g++")
+    installed(package)
+    library = package / "debian/libstream1/usr/lib/x86_64-linux-gnu/libplus.so.1"
+    (package / "plus.cc").write_text("int plus(int a) { return a; }\n")
+    done("g++", "-g", "-fPIC", "-shared", "-Wl,-soname,libplus.so.1", "-o", library, package / "plus.cc")
+    ended = judged(package, "--update")
+    assert ended.status == 0 and ended.out == f"kept libstream.so.1: {BASELINE}, 2 exports, 2 with types\n", ended
+    assert "warning: debian/abi/libplus.so.1.abi is of no use, since abi cannot compare it (cannot tell: " in ended.errors, ended
+    assert "fault 33" in ended.errors and 'if it is in C++, run "dh_abi --update -Xlibplus.so.1", and give the same -X to' in ended.errors
+    assert judged(package).status != 0
+    ended = judged(package, "--update", "-Xlibplus.so.1")
+    assert ended.status == 0 and "of no use" not in ended.errors, ended
+    assert [path.name for path in (package / "debian/abi").iterdir()] == ["libstream.so.1.abi"]
+    assert judged(package, "-Xlibplus.so.1").status == 0
+
+
+def test_no_recommended_package_is_needed(package: Path, tmp_path: Path, monkeypatch: pytest.MonkeyPatch) -> None:
+    """Python cannot import what the package abi recommends or suggests; yes, no and --update are as with these."""
+    modules = ("libarchive", "zstandard", "debian", "jinja2", "rich", "distributed", "cryptography")
+    (tmp_path / "sitecustomize.py").write_text(f"import sys\nsys.modules.update(dict.fromkeys({modules}))\n")
+    monkeypatch.setenv("PYTHONPATH", str(tmp_path))
+    for module in modules:
+        assert run("/usr/bin/python3", "-c", f"import {module}", folder=tmp_path).status == 1, module
+    installed(package)
+    assert done("dh_abi", "--update", folder=package).startswith("kept ")
+    ended = judged(package)
+    assert ended.status == 0 and "yes: 2 exports compared, 2 with types" in ended.out, ended
+    write(package, {"stream.c": BREAK})
+    installed(package)
+    ended = judged(package)
+    assert ended.status != 0 and "struct stream\n  L2      size: 16 -> 24 bytes\n" in ended.out, ended
+    assert_stopped(ended, "libstream.so.1: no")
 
 
 def test_versions_of_symbols_to_raise_are_named(released: Path, monkeypatch: pytest.MonkeyPatch) -> None:
