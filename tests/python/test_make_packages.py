@@ -118,14 +118,14 @@ def test_packages_hold_what_is_installed(made: Path, tmp_path: Path) -> None:
     listed = {kind: sorted(str(path.relative_to(top)) for path in top.rglob("*")) for kind, top in found.items()}
     modules = ["lib/python3", "lib/python3/dist-packages", "lib/python3/dist-packages/abi"]
     assert [name for name in listed["deb"] if name not in modules] == listed["rpm"] == listed["tar"]
-    told = run("env", f"PYTHONPATH={found['deb'] / 'lib/python3/dist-packages'}", "/usr/bin/python3", "-c", "import abi; print(abi.check)")
+    assert not [name for name in listed["deb"] if "__pycache__" in name]
+    told = run("env", f"PYTHONPATH={found['deb'] / 'lib/python3/dist-packages'}", "/usr/bin/python3", "-B", "-c", "import abi; print(abi.check)")
     assert told.status == 0 and "function check" in told.out, told
     for top in found.values():
         assert [run(top / "bin" / name).out for name in ("abi", "abi-json")] == ["abi\n", "abi-json\n"]
         for tool in INSTALLED_TOOLS:
             assert run(top / "bin" / tool, "--help").out.startswith(f"usage: {tool}")
         assert {path.name for path in (top / "share/man/man1").iterdir()} == {f"{name}.1.gz" for name in ("abi", "abi-json", *INSTALLED_TOOLS)}
-        assert not list(top.rglob("__pycache__"))
         assert (top / "share/doc/abi/copyright").read_bytes() == (ROOT / "LICENSE").read_bytes()
         licences = top / "share/doc/abi/licences"
         assert (licences / "library.txt").read_text() == "as you like\n"

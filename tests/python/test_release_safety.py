@@ -442,24 +442,30 @@ def test_a_cluster_without_tls_is_refused(tmp_path: Path) -> None:
         assert ended.status == 64 and words in ended.errors and not (tmp_path / "out").exists(), ended
 
 
+def on_host(name: str) -> tuple[str, ...]:
+    """What runs a command in a network namespace. `ip netns exec` also mounts, which fails where the root is no mount point, as in a chroot."""
+    return ("nsenter", f"--net=/run/netns/{name}")
+
+
 @contextlib.contextmanager
 def three_hosts() -> Iterator[list[Host]]:
     """Three hosts on one network, each in a network namespace of its own."""
     names = [f"abi-{os.getpid()}-{number}" for number in range(3)]
-    first = names[0]
+    first = on_host(names[0])
     try:
         for name in names:
             done("ip", "netns", "add", name)
-            done("ip", "-n", name, "link", "set", "lo", "up")
-        done("ip", "-n", first, "link", "add", "bridge", "type", "bridge")
-        done("ip", "-n", first, "address", "add", "10.77.0.1/24", "dev", "bridge")
-        done("ip", "-n", first, "link", "set", "bridge", "up")
+            done(*on_host(name), "ip", "link", "set", "lo", "up")
+        done(*first, "ip", "link", "add", "bridge", "type", "bridge")
+        done(*first, "ip", "address", "add", "10.77.0.1/24", "dev", "bridge")
+        done(*first, "ip", "link", "set", "bridge", "up")
         for number, name in enumerate(names[1:], 2):
-            done("ip", "-n", name, "link", "add", "wire", "type", "veth", "peer", "name", f"wire{number}", "netns", first)
-            done("ip", "-n", name, "address", "add", f"10.77.0.{number}/24", "dev", "wire")
-            done("ip", "-n", name, "link", "set", "wire", "up")
-            done("ip", "-n", first, "link", "set", f"wire{number}", "master", "bridge", "up")
-        yield [Host(f"10.77.0.{number}", ("ip", "netns", "exec", name)) for number, name in enumerate(names, 1)]
+            host = on_host(name)
+            done(*host, "ip", "link", "add", "wire", "type", "veth", "peer", "name", f"wire{number}", "netns", names[0])
+            done(*host, "ip", "address", "add", f"10.77.0.{number}/24", "dev", "wire")
+            done(*host, "ip", "link", "set", "wire", "up")
+            done(*first, "ip", "link", "set", f"wire{number}", "master", "bridge", "up")
+        yield [Host(f"10.77.0.{number}", on_host(name)) for number, name in enumerate(names, 1)]
     finally:
         for name in names:
             run("ip", "netns", "delete", name)
@@ -467,7 +473,7 @@ def three_hosts() -> Iterator[list[Host]]:
 
 def test_a_cluster_of_several_hosts(tmp_path: Path) -> None:
     """A host without a certificate of the cluster's authority gets no answer from the scheduler or the worker, and no run."""
-    needs("ip", "ss")
+    needs("ip", "nsenter", "ss")
     if os.getuid() != 0 or run("unshare", "--net", "true").status != 0:
         pytest.skip("there is no right to make networks")
     three(tmp_path)
