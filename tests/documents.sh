@@ -25,4 +25,11 @@ compilers=gcc
 ! there clang || compilers="gcc clang"
 # shellcheck disable=SC2086
 /usr/bin/python3 -B "$root/tests/documents/documents.py" "$found" "$root/docs/report.schema.json" "$work" $compilers || fail "see above"
+
+# The document on an argument that is not UTF-8 is that of the usage, and a sentence says why.
+ended=0
+said=$("$found" check $'\xff' b 2>&1 >"$work/usage.json") || ended=$?
+[ "$ended" -eq 64 ] || fail "an argument that is not UTF-8: status $ended, not 64"
+[ "$said" = "abi-json: an argument is not UTF-8; only files whose names are UTF-8 can be given" ] || fail "an argument that is not UTF-8: $said"
+grep -q '"answer":"usage"' "$work/usage.json" || fail "an argument that is not UTF-8: no document of the usage"
 told "passed"
