@@ -54,7 +54,8 @@ fn lay_out(alloc: Global, library: &[u8], tag: &str) -> Result<Judgement, Stop>
     requires { length library.now ≤ input_limit }
     ensures readable { (name : List ℕ) → OnOk result (AreReadable (asks_of (layout_inputs name)) (library.now ∷ [])) }
     ensures said { IfOk result (λ j. layout_says tag.now (library.now ∷ []) j.verdict j.untyped j.text.items) }
-    ensures stops { (name : List ℕ) → IfErr result (StopsAt (asks_of (layout_inputs name)) (layout_passes tag.now) (library.now ∷ [])) }
+    ensures stops { (name : List ℕ)
+        → IfErr result (StopsAt (asks_of (layout_inputs name)) (layout_passes tag.now) (library.now ∷ [])) }
 {
     match layout_of(alloc, library, tag) {
         Ok(Laid::Lines(text)) => Ok(Judgement {

@@ -27,7 +27,8 @@ use pair_rules::laws::{
 /// that names it. The part of another type that the same move names is its match.
 pub fn moves_name_parts()
     ensures exact { (v : PlainView) (move : Move) (i : ℕ) → (named v move ≡ Some i) ↔ IsNamed v move i }
-    ensures each { (v : PlainView) (i to : ℕ) → HasForm v → to_of (part_at v i) ≡ Some to → named v (move_at v i) ≡ Some i }
+    ensures each { (v : PlainView) (i to : ℕ) → HasForm v → to_of (part_at v i) ≡ Some to
+        → named v (move_at v i) ≡ Some i }
     ensures matches { (v w : PlainView) (move : Move) (i : ℕ) → named v move ≡ Some i → named w move ≡ match_of v w i }
 {}
 
@@ -44,12 +45,18 @@ pub fn paths_are_accesses()
 /// An access that lands has the same offset in bits and the same width in both libraries at every step. No open access goes on from
 /// a type that is marked for its way, or that lacks a definition in either library.
 pub fn landing_is_side_by_side()
-    ensures beside { (t : Task) (root : PlainRoot) (moves : Moves) (old new : Spot) → old_spot t root moves ≡ Some old → new_spot t root moves ≡ Some new
+    ensures beside { (t : Task) (root : PlainRoot) (moves : Moves) (old new : Spot) → old_spot t root moves ≡ Some old
+        → new_spot t root moves ≡ Some new
         → Lands t root moves → (old.bit ≡ new.bit) × (old.width ≡ new.width) }
-    ensures fronts { (t : Task) (root : PlainRoot) (moves : Moves) (move : Move) (s : Spot) → old_spot t root moves ≡ Some s → IsOpenAccess t root (Then moves move) → IsOpenAccess t root moves }
-    ensures marked { (t : Task) (root : PlainRoot) (moves : Moves) (move : Move) (s : Spot) → old_spot t root moves ≡ Some s → is_marked t s.node s.way ≡ true → IsOpen t root (Then moves move) → ⊥ }
-    ensures old_declared { (t : Task) (root : PlainRoot) (moves : Moves) (move : Move) (s : Spot) → old_spot t root moves ≡ Some s → (view_at t.old s.node).declared_only ≡ true → IsOpen t root (Then moves move) → ⊥ }
-    ensures new_declared { (t : Task) (root : PlainRoot) (moves : Moves) (move : Move) (s n : Spot) → old_spot t root moves ≡ Some s → new_spot t root moves ≡ Some n
+    ensures fronts { (t : Task) (root : PlainRoot) (moves : Moves) (move : Move) (s : Spot)
+        → old_spot t root moves ≡ Some s → IsOpenAccess t root (Then moves move) → IsOpenAccess t root moves }
+    ensures marked { (t : Task) (root : PlainRoot) (moves : Moves) (move : Move) (s : Spot)
+        → old_spot t root moves ≡ Some s → is_marked t s.node s.way ≡ true → IsOpen t root (Then moves move) → ⊥ }
+    ensures old_declared { (t : Task) (root : PlainRoot) (moves : Moves) (move : Move) (s : Spot)
+        → old_spot t root moves ≡ Some s → (view_at t.old s.node).declared_only ≡ true
+        → IsOpen t root (Then moves move) → ⊥ }
+    ensures new_declared { (t : Task) (root : PlainRoot) (moves : Moves) (move : Move) (s n : Spot)
+        → old_spot t root moves ≡ Some s → new_spot t root moves ≡ Some n
         → (view_at t.new n.node).declared_only ≡ true → IsOpen t root (Then moves move) → ⊥ }
 {}
 
@@ -63,8 +70,10 @@ pub fn both_readings_of_open_are_one()
 /// Two types that break no rule agree, if they have the forms of their kinds and places for their parameters. Whatever their forms,
 /// two types that agree break only rules on members: one is missing, or has another offset or width.
 pub fn agreement_is_no_break_but_of_members()
-    ensures agree { (v w : PlainView) → HasForm v → HasForm w → HasPlaces v → HasPlaces w → breaks v w ≡ [] → Agree v w }
-    ensures members { (v w : PlainView) (b : Broken) → Contains (breaks v w) b → (Agree v w → ⊥) ⊎ MemberBreaks v w b.part }
+    ensures agree { (v w : PlainView) → HasForm v → HasForm w → HasPlaces v → HasPlaces w → breaks v w ≡ []
+        → Agree v w }
+    ensures members { (v w : PlainView) (b : Broken) → Contains (breaks v w) b → (Agree v w → ⊥)
+        ⊎ MemberBreaks v w b.part }
 {
     breaks_are_where_their_rules_say();
     parts_match_in_order();
@@ -86,8 +95,10 @@ pub fn open_accesses_land()
 /// For each rule that a reachable triple breaks, where its old node is not marked for its way, there is an open access that does
 /// not land. So if every open access lands in agreement, none of these triples breaks a rule.
 pub fn breaks_are_missed()
-    ensures missed { (t : Task) (path : Path) (x : Triple) (b : Broken) → AreCompared t → PathLeadsTo t path x → is_marked t x.old x.way ≡ false → Contains (breaks_of t x) b → Misses t }
-    ensures none { (t : Task) (path : Path) (x : Triple) → AreCompared t → AllLand t → PathLeadsTo t path x → is_marked t x.old x.way ≡ false → breaks_of t x ≡ [] }
+    ensures missed { (t : Task) (path : Path) (x : Triple) (b : Broken) → AreCompared t → PathLeadsTo t path x
+        → is_marked t x.old x.way ≡ false → Contains (breaks_of t x) b → Misses t }
+    ensures none { (t : Task) (path : Path) (x : Triple) → AreCompared t → AllLand t → PathLeadsTo t path x
+        → is_marked t x.old x.way ≡ false → breaks_of t x ≡ [] }
 {
     breaks_are_where_their_rules_say();
     parts_match_in_order();

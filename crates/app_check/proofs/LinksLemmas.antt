@@ -50,7 +50,7 @@ module _ (imports : List Import) (i : ℕ) (d : Import) (inside : i < length imp
       ∙ ap (λ (w : PlainExport). map wanted_by so_far ++ w ∷ []) is
       ∙ sym (ap (map wanted_by) (take-map_more plain_import imports i d inside) ∙ map-append wanted_by so_far (this ∷ []))
 
--- ---- the number of those that bind, and the names of those that the library lacks
+-- ---- the number of imports that bind, and the names of the imports that the library lacks
 
 abbrev pub texts : List (Bor (List ℕ)) → List (List ℕ)
 texts names = map (λ (name : Bor (List ℕ)). name.now) names

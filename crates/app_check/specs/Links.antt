@@ -104,11 +104,11 @@ lacking_names symbols exports imports = map (λ i. i.name) (filter (is_lacking s
 abbrev pub imports_between : (app library : List ℕ) → List PlainImport
 imports_between app library = imports_from (soname_of library) (imports_of app)
 
--- how many of them bind to the library
+-- how many of these imports bind to the library
 abbrev pub bound_between : (app library : List ℕ) → ℕ
 bound_between app library = count_by (is_bound (exports_of library)) (imports_between app library)
 
--- the names of those that the library lacks, in order; none if the application does not list the library as needed
+-- the names of the imports that the library lacks, in order; none if the application does not list the library as needed
 abbrev pub lacking_between : (app library : List ℕ) → List (List ℕ)
 lacking_between app library =
     if lists_soname app (soname_of library) then lacking_names (symbols_of app) (exports_of library) (imports_between app library) else []
@@ -123,11 +123,11 @@ links_fault app library = first (app_fault app ∷ library_fault library ∷ [])
 abbrev pub ExportsPass : List ℕ → Limit → Type 0
 ExportsPass f l = PassesDefinitions f l ⊎ PassesExports (symbols_of f) (symbol_versions f) l
 
--- the limit on symbols, or one of those
+-- the limit on symbols, on version definitions, or on names of exports
 abbrev pub LibraryPasses : List ℕ → Limit → Type 0
 LibraryPasses f l = PassesSymbols f l ⊎ ExportsPass f l
 
--- the limit is that of a budget, of which so many more are more than it allows
+-- the limit is the budget's, and with this count added the budget takes more than it allows
 abbrev pub Exceeds : BudgetState → ℕ → Limit → Type 0
 Exceeds budget count l = (l ≡ budget.limit) × (budget.most < budget.taken + count)
 

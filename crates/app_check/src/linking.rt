@@ -63,7 +63,8 @@ fn imports_from<'a>(
     imports: &[Import<'a>],
     soname: Option<&[u8]>,
 ) -> Result<Vec<Import<'a>>, NoMemory>
-    ensures read { IfOk result (λ those. plain_imports those.items ≡ spec.imports_from (option_copied soname.entry) (plain_imports imports.now)) }
+    ensures read { IfOk result (λ those. plain_imports those.items
+        ≡ spec.imports_from (option_copied soname.entry) (plain_imports imports.now)) }
     ensures named { IfErr result (λ e. e ≡ Allocation) }
 {
     let mut those = Vec::new(alloc);
@@ -93,7 +94,8 @@ fn places_of(
     imports: &[Import],
     exports: &[Export],
 ) -> Result<List<Option<usize>>, NoMemory>
-    ensures read { IfOk result (λ places. places ≡ map (spec.place_of (plain_exports exports.now)) (plain_imports imports.now)) }
+    ensures read { IfOk result (λ places. places
+        ≡ map (spec.place_of (plain_exports exports.now)) (plain_imports imports.now)) }
     ensures named { IfErr result (λ e. e ≡ Allocation) }
 {
     let wanted = wanted(alloc, imports)?;
@@ -108,8 +110,10 @@ fn links_of<'a>(
     exports: &[Export],
     symbols: &[Symbol],
 ) -> Result<Links<'a>, NoMemory>
-    ensures bound { IfOk result (λ links. links.bound ≡ count_by (is_bound (plain_exports exports.now)) (plain_imports imports.now)) }
-    ensures lacking { IfOk result (λ links. map (λ name. name.now) links.lacking.items ≡ lacking_names (plain_symbols symbols.now) (plain_exports exports.now) (plain_imports imports.now)) }
+    ensures bound { IfOk result (λ links. links.bound
+        ≡ count_by (is_bound (plain_exports exports.now)) (plain_imports imports.now)) }
+    ensures lacking { IfOk result (λ links. map (λ name. name.now) links.lacking.items
+        ≡ lacking_names (plain_symbols symbols.now) (plain_exports exports.now) (plain_imports imports.now)) }
     ensures named { IfErr result (λ e. e ≡ Allocation) }
 {
     let places = places_of(alloc, imports, exports)?;
@@ -126,7 +130,7 @@ fn links_of<'a>(
     Ok(Links { bound, lacking })
 }
 
-// The same links, where the library is not listed as needed: no import is one that it lacks.
+// The links to a library that the application does not list as needed: it lacks no import.
 fn unlisted<'a>(alloc: Global, links: &Links) -> Links<'a>
     ensures bound { result.bound ≡ links.now.bound }
     ensures lacking { result.lacking.items ≡ [] }
@@ -145,8 +149,10 @@ fn links_to<'a>(
     imports: &[Import<'a>],
     offered: &Offered,
 ) -> Result<Links<'a>, NoMemory>
-    ensures bound { IfOk result (λ links. links.bound ≡ count_by (is_bound (plain_exports offered.now.exports.items)) (spec.imports_from (option_copied offered.now.soname) (plain_imports imports.now))) }
-    ensures lacking { IfOk result (λ links. map (λ name. name.now) links.lacking.items ≡ (if lists_it file.now (option_copied offered.now.soname) then lacking_names (plain_symbols symbols.now) (plain_exports offered.now.exports.items) (spec.imports_from (option_copied offered.now.soname) (plain_imports imports.now)) else [])) }
+    ensures bound { IfOk result (λ links. links.bound
+        ≡ count_by (is_bound (plain_exports offered.now.exports.items)) (spec.imports_from (option_copied offered.now.soname) (plain_imports imports.now))) }
+    ensures lacking { IfOk result (λ links. map (λ name. name.now) links.lacking.items
+        ≡ (if lists_it file.now (option_copied offered.now.soname) then lacking_names (plain_symbols symbols.now) (plain_exports offered.now.exports.items) (spec.imports_from (option_copied offered.now.soname) (plain_imports imports.now)) else [])) }
     ensures past { IfErr result (λ e. OnLimit e (PassesSoname file.now (option_copied offered.now.soname))) }
 {
     let imports = imports_from(alloc, imports, offered.soname)?;
@@ -172,7 +178,8 @@ fn links_with<'a>(
     requires imports { plain_imports imports.now ≡ imports_of file.now }
     ensures judged { Judges result (library_fault library.now) }
     ensures bound { IfOk result (λ links. links.bound ≡ bound_between file.now library.now) }
-    ensures lacking { IfOk result (λ links. map (λ name. name.now) links.lacking.items ≡ lacking_between file.now library.now) }
+    ensures lacking { IfOk result (λ links. map (λ name. name.now) links.lacking.items
+        ≡ lacking_between file.now library.now) }
     ensures past { IfErr result (λ e. OnPast e (OfferedPass file.now library.now)) }
 {
     let offered = read_offered(alloc, library)?;
@@ -187,7 +194,8 @@ pub fn links_between<'a>(alloc: Global, app: &'a [u8], library: &[u8]) -> Result
     requires library_short { length library.now ≤ input_limit }
     ensures judged { Judges result (links_fault app.now library.now) }
     ensures bound { IfOk result (λ links. links.bound ≡ bound_between app.now library.now) }
-    ensures lacking { IfOk result (λ links. map (λ name. name.now) links.lacking.items ≡ lacking_between app.now library.now) }
+    ensures lacking { IfOk result (λ links. map (λ name. name.now) links.lacking.items
+        ≡ lacking_between app.now library.now) }
     ensures past { IfErr result (λ e. OnPast e (LinksPass app.now library.now)) }
 {
     let file = read_elf(app)?;

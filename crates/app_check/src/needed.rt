@@ -62,8 +62,8 @@ fn is_text_at(strings: &[u8], text: &[u8], at: u64) -> bool
     }
 }
 
-// The same. Only where a text of this length can end is its end looked for and the text compared, as long as the budget allows its
-// bytes: many entries may share one long name.
+// Whether this text is at an offset, found within a budget. The text is compared only where one of its length can end, and its bytes
+// count: many entries may share one long name.
 #[tactic(auto, using(crate::proofs::NeededFiles::ends_behind))]
 fn is_text_within(
     strings: &[u8],

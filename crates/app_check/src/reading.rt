@@ -125,7 +125,8 @@ fn keep<'a>(
     ensures kept { OnOk result (imports.new.items ≡ imports.old.items ++ import.entry ∷ []) }
     ensures taken { OnOk result (budget.new ≡ with_taken budget.old (need_bytes (plain_import import.entry))) }
     ensures within { OnOk result (budget.old.taken + need_bytes (plain_import import.entry) ≤ budget.old.most) }
-    ensures past { IfErr result (λ e. OnLimit e (λ l. (l ≡ budget.old.limit) × (budget.old.most < budget.old.taken + need_bytes (plain_import import.entry)))) }
+    ensures past { IfErr result (λ e. OnLimit e (λ l. (l ≡ budget.old.limit)
+        × (budget.old.most < budget.old.taken + need_bytes (plain_import import.entry)))) }
 {
     budget.take(need_len(&import))?;
     Ok(imports.push(import)?)
@@ -140,7 +141,8 @@ fn imports_in<'a>(
     symbols: &[Symbol<'a>],
 ) -> Result<Vec<Import<'a>>, NoMemory>
     requires { length symbols.now < 2 ^ 32 }
-    ensures read { IfOk result (λ imports. plain_imports imports.items ≡ imports_with (needed needs.now) indexes.now (plain_symbols symbols.now)) }
+    ensures read { IfOk result (λ imports. plain_imports imports.items
+        ≡ imports_with (needed needs.now) indexes.now (plain_symbols symbols.now)) }
     ensures short { IfOk result (λ imports. all_need_bytes (plain_imports imports.items) ≤ most_need_bytes (length symbols.now)) }
     ensures past { IfErr result (λ e. OnLimit e (PassesImportsWith (needed needs.now) indexes.now (plain_symbols symbols.now))) }
 {

@@ -54,7 +54,8 @@ fn wanted_of<'a>(
     imports: &[Import<'a>],
     soname: Option<&[u8]>,
 ) -> Result<Vec<Export<'a>>, NoMemory>
-    ensures read { IfOk result (λ wanted. plain_exports wanted.items ≡ map what_it_wants (filter (spec.may_come_from (option_copied soname.entry)) (plain_imports imports.now))) }
+    ensures read { IfOk result (λ wanted. plain_exports wanted.items
+        ≡ map what_it_wants (filter (spec.may_come_from (option_copied soname.entry)) (plain_imports imports.now))) }
     ensures named { IfErr result (λ e. e ≡ Allocation) }
 {
     let mut wanted = Vec::new(alloc);
@@ -102,7 +103,8 @@ pub fn used(
     soname: Option<&[u8]>,
     old: &[Export],
 ) -> Result<Vec<bool>, NoMemory>
-    ensures { IfOk result (λ used. used.items ≡ used_exports (plain_imports imports.now) (option_copied soname.entry) (plain_exports old.now)) }
+    ensures { IfOk result (λ used. used.items
+        ≡ used_exports (plain_imports imports.now) (option_copied soname.entry) (plain_exports old.now)) }
 {
     let wanted = wanted_of(alloc, imports, soname)?;
     let places = bind_all(alloc, &wanted, old)?;

@@ -26,7 +26,8 @@ pub fn check_cert(
     cert: &Cert,
 ) -> Result<(), Refused>
     ensures settles { Settles (asked old.now new.now marks.now cert.now) (places (asked old.now new.now marks.now cert.now)) result }
-    ensures agreed { OnOk result (AreEven (task_of (sides old.now new.now marks.now)) → IsAgreed (sides old.now new.now marks.now)) }
+    ensures agreed { OnOk result (AreEven (task_of (sides old.now new.now marks.now))
+        → IsAgreed (sides old.now new.now marks.now)) }
 {
     an_accepted_certificate_is_a_proof();
     compatible_is_that_accesses_agree();

@@ -45,9 +45,11 @@ pub fn compatible_is_that_accesses_agree()
 /// Under the same premises, the relation of an accepted certificate is one that the theorem requires: it is closed, and holds the
 /// types of all compared exports, by value.
 pub fn the_relation_of_an_accepted_certificate_is_closed()
-    ensures closed { (c : Case) → IsGraph c.sides.old.graph → IsGraph c.sides.new.graph → AreEven (task_of c.sides) → IsAccepted c
+    ensures closed { (c : Case) → IsGraph c.sides.old.graph → IsGraph c.sides.new.graph → AreEven (task_of c.sides)
+        → IsAccepted c
         → IsClosed (task_of c.sides) (relation_of c) }
-    ensures roots { (c : Case) → IsGraph c.sides.old.graph → IsGraph c.sides.new.graph → AreEven (task_of c.sides) → IsAccepted c
+    ensures roots { (c : Case) → IsGraph c.sides.old.graph → IsGraph c.sides.new.graph → AreEven (task_of c.sides)
+        → IsAccepted c
         → HoldsRoots (task_of c.sides) (relation_of c) }
 {
     what_stands_for_classes_closes();
@@ -55,7 +57,8 @@ pub fn the_relation_of_an_accepted_certificate_is_closed()
 
 /// At most one place is the first that fails.
 pub fn one_place_fails_first()
-    ensures { (c : Case) (one other : Place) → IsFirstFailing c (places c) one → IsFirstFailing c (places c) other → one ≡ other }
+    ensures { (c : Case) (one other : Place) → IsFirstFailing c (places c) one → IsFirstFailing c (places c) other
+        → one ≡ other }
 {}
 
 /// A certificate is accepted exactly if all its conditions hold.

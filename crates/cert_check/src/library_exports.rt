@@ -33,7 +33,8 @@ pub fn find_at<'x, 'a, Ix: Index>(
     library: &'x Library<'a, Ix>,
     place: usize,
 ) -> Option<&'x Export<'a>>
-    ensures { MatchOption result (slice_get library.now.exports place ≡ None) (λ export. slice_get library.now.exports place ≡ Some (plain_export export.now)) }
+    ensures { MatchOption result (slice_get library.now.exports place
+        ≡ None) (λ export. slice_get library.now.exports place ≡ Some (plain_export export.now)) }
 {
     library.exports().get(place)
 }

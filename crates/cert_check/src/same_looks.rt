@@ -156,7 +156,8 @@ fn same_parts<Ix: Index>(
     requires one { NamesNodes graph.now one.now }
     requires other { NamesNodes graph.now other.now }
     requires ascend { Ascend first_cmp lines.now }
-    ensures { IsTrue result ↔ (map (part_seen (class_in graph.now lines.now)) one.now.parts ≡ map (part_seen (class_in graph.now lines.now)) other.now.parts) }
+    ensures { IsTrue result ↔ (map (part_seen (class_in graph.now lines.now)) one.now.parts
+        ≡ map (part_seen (class_in graph.now lines.now)) other.now.parts) }
 {
     if one.parts_len() != other.parts_len() {
         return false;
@@ -212,7 +213,8 @@ pub fn look_alike<Ix: Index>(graph: &Graph<Ix>, lines: &[(u64, u64)], one: Ix, o
     requires one { Ix.number_of one < length graph.now }
     requires other { Ix.number_of other < length graph.now }
     requires ascend { Ascend first_cmp lines.now }
-    ensures { IsTrue result ↔ (look_of (class_in graph.now lines.now) (node_at graph.now (Ix.number_of one)) ≡ look_of (class_in graph.now lines.now) (node_at graph.now (Ix.number_of other))) }
+    ensures { IsTrue result ↔ (look_of (class_in graph.now lines.now) (node_at graph.now (Ix.number_of one))
+        ≡ look_of (class_in graph.now lines.now) (node_at graph.now (Ix.number_of other))) }
 {
     the_same_are_equal();
     graph.known();

@@ -41,7 +41,8 @@ fn pair_lines(
     requires seconds { Ascend pair_cmp others.now.pairs.now }
     requires middles { IsNonDecreasingBy first_of middles.now }
     ensures ascend { IfOk result (Ascend pair_cmp) }
-    ensures exact { IfOk result (λ lines. (line : PairLine) → Contains lines line ↔ Contains (joins ones.now.alike.now others.now.alike.now others.now.pairs.now middles.now ones.now.pairs.now) line) }
+    ensures exact { IfOk result (λ lines. (line : PairLine)
+        → Contains lines line ↔ Contains (joins ones.now.alike.now others.now.alike.now others.now.pairs.now middles.now ones.now.pairs.now) line) }
 {
     let mut lines = join(alloc, ones, others, middles)?.into_vec();
     sort_lines(&mut lines);

@@ -33,7 +33,8 @@ fn is_same_way(one: Way, other: Way) -> bool
 pub(crate) fn lines_from(lines: &[(u64, u64, Way)], number: u64) -> usize
     requires { Ascend pair_cmp lines.now }
     ensures inside { result ≤ length lines.now }
-    ensures parts { IsPartitionPoint (λ (line : PairLine). ltb (line_first line) number ≡ true) (λ (line : PairLine). ltb (line_first line) number ≡ false) lines.now result }
+    ensures parts { IsPartitionPoint (λ (line : PairLine). ltb (line_first line) number
+        ≡ true) (λ (line : PairLine). ltb (line_first line) number ≡ false) lines.now result }
 {
     lines.partition_point(|line| line.0 < number)
 }
@@ -42,7 +43,8 @@ pub(crate) fn lines_from(lines: &[(u64, u64, Way)], number: u64) -> usize
 pub(crate) fn middles_from(middles: &[(u64, u64)], number: u64) -> usize
     requires { IsNonDecreasingBy first_of middles.now }
     ensures inside { result ≤ length middles.now }
-    ensures parts { IsPartitionPoint (λ (middle : ℕ × ℕ). ltb (first_of middle) number ≡ true) (λ (middle : ℕ × ℕ). ltb (first_of middle) number ≡ false) middles.now result }
+    ensures parts { IsPartitionPoint (λ (middle : ℕ × ℕ). ltb (first_of middle) number
+        ≡ true) (λ (middle : ℕ × ℕ). ltb (first_of middle) number ≡ false) middles.now result }
 {
     middles.partition_point(|middle| middle.0 < number)
 }
@@ -97,7 +99,8 @@ pub fn through(
     requires alike { Ascend first_cmp alike.now }
     requires seconds { Ascend pair_cmp seconds.now }
     requires middles { IsNonDecreasingBy first_of middles.now }
-    ensures { OnOk result (lines.new ≡ lines.old ++ spec.through alike.now seconds.now middles.now line.0 line.1 line.2) }
+    ensures { OnOk result (lines.new
+        ≡ lines.old ++ spec.through alike.now seconds.now middles.now line.0 line.1 line.2) }
 {
     let start = middles_from(middles, line.1);
     for k in start..middles.len() {
@@ -121,7 +124,8 @@ pub fn join(
     requires alike_new { Ascend first_cmp others.now.alike.now }
     requires seconds { Ascend pair_cmp others.now.pairs.now }
     requires middles { IsNonDecreasingBy first_of middles.now }
-    ensures { IfOk result (λ lines. lines ≡ joins ones.now.alike.now others.now.alike.now others.now.pairs.now middles.now ones.now.pairs.now) }
+    ensures { IfOk result (λ lines. lines
+        ≡ joins ones.now.alike.now others.now.alike.now others.now.pairs.now middles.now ones.now.pairs.now) }
 {
     let mut lines = List::new(alloc);
     for line in ones.pairs {

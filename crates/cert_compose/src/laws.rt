@@ -17,8 +17,10 @@ use pair_rules::laws::{parts_meet_in_the_middle, steps_lead_to_nodes};
 
 /// If nothing is lost between them, the certificate that two accepted ones compose is accepted.
 pub fn what_is_composed_is_accepted()
-    ensures accepted { (ch : PlainChain) (c : PlainCert) → IsChain ch → NothingBetween ch → IsComposed ch c → IsAccepted (far_case ch c) }
-    ensures compatible { (ch : PlainChain) (c : PlainCert) → IsChain ch → NothingBetween ch → IsComposed ch c → IsCompatible (far ch) }
+    ensures accepted { (ch : PlainChain) (c : PlainCert) → IsChain ch → NothingBetween ch → IsComposed ch c
+        → IsAccepted (far_case ch c) }
+    ensures compatible { (ch : PlainChain) (c : PlainCert) → IsChain ch → NothingBetween ch → IsComposed ch c
+        → IsCompatible (far ch) }
 {
     what_is_accepted_keeps_all();
     lines_are_found_where_they_stand();
@@ -35,6 +37,7 @@ pub fn what_is_composed_is_one()
 
 /// At most one loss is the first, and there is none where nothing is lost.
 pub fn one_thing_is_lost_first()
-    ensures one { (ch : PlainChain) (lost other : Refused) → IsLost ch lost.kind lost.at → IsLost ch other.kind other.at → lost ≡ other }
+    ensures one { (ch : PlainChain) (lost other : Refused) → IsLost ch lost.kind lost.at
+        → IsLost ch other.kind other.at → lost ≡ other }
     ensures none { (ch : PlainChain) (lost : Refused) → NothingBetween ch → IsLost ch lost.kind lost.at → ⊥ }
 {}

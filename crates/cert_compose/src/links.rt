@@ -34,7 +34,8 @@ fn link_of<'x, 'b, 'c>(
     ground: &CertifiedChain<'x, '_, 'b, 'c>,
     export: &Export,
 ) -> Option<Link<'x, 'b, 'c>>
-    ensures { MatchOption result (BindsThrough (chain_of ground.now) (plain_export export.now) → ⊥) (λ link. IsLink (chain_of ground.now) (plain_export export.now) (plain_export link.between.now) (plain_export link.partner.now)) }
+    ensures { MatchOption result (BindsThrough (chain_of ground.now) (plain_export export.now)
+        → ⊥) (λ link. IsLink (chain_of ground.now) (plain_export export.now) (plain_export link.between.now) (plain_export link.partner.now)) }
 {
     let between = match bound_to(export, ground.middle) {
         None => return None,

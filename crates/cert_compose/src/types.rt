@@ -25,7 +25,8 @@ use std::alloc::Global;
 /// The node of an entry.
 pub(crate) fn find<Ix: Index>(library: &Library<Ix>, entry: u64) -> Option<Ix>
     ensures node { option_map Ix.number_of result ≡ node_of library.now.graph entry }
-    ensures inside { MatchOption result (node_of library.now.graph entry ≡ None) (λ ix. Ix.number_of ix < length library.now.graph) }
+    ensures inside { MatchOption result (node_of library.now.graph entry
+        ≡ None) (λ ix. Ix.number_of ix < length library.now.graph) }
 {
     library.graph().find(entry)
 }

@@ -20,7 +20,8 @@ fn feed_from(bytes: &[u8], at: usize) -> Option<usize>
 /// The position of the line feed that ends the line at a position, or `None` if the text ends first.
 pub fn line_end(bytes: &[u8], at: usize) -> Option<usize>
     requires { at ≤ length bytes.now }
-    ensures { MatchOption result (IsRest bytes.now at) (λ end. (at ≤ end) × StandsAt bytes.now at (end + 1) (text_at bytes.now at end)) }
+    ensures { MatchOption result (IsRest bytes.now at) (λ end. (at ≤ end)
+        × StandsAt bytes.now at (end + 1) (text_at bytes.now at end)) }
 {
     match feed_from(bytes, at) {
         None => None,

@@ -57,7 +57,8 @@ pub fn from(text: &[u8], at: usize) -> &[u8]
 /// The number before the first space, and the text after that space; `None` if either is missing.
 #[tactic(auto, unfolding(crate::specs::Forms::number_then))]
 pub fn number_then(text: &[u8]) -> Option<(u64, &[u8])>
-    ensures { MatchOption result (spec.number_then text.now ≡ None) (λ found. spec.number_then text.now ≡ Some (found.0, found.1.now)) }
+    ensures { MatchOption result (spec.number_then text.now ≡ None) (λ found. spec.number_then text.now
+        ≡ Some (found.0, found.1.now)) }
 {
     match space(text) {
         None => None,

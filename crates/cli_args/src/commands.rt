@@ -243,7 +243,8 @@ pub(crate) fn made<'a>(
     style: Option<ReportStyle>,
     words: &[&'a str],
 ) -> Option<Request<'a>>
-    ensures { option_map plain_request result ≡ made_of (row_of name).making (plain_word rules.entry) style (texts words.now) }
+    ensures { option_map plain_request result
+        ≡ made_of (row_of name).making (plain_word rules.entry) style (texts words.now) }
 {
     match name {
         CommandName::Check => Some(Request::Check(check(rules, style?, words))),

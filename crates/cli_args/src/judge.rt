@@ -51,7 +51,8 @@ fn requested<'a>(
     rules: Option<&'a str>,
     report: Option<&'a str>,
 ) -> Option<Request<'a>>
-    ensures { option_map plain_request result ≡ request_of (row_of name) (texts words.now) (plain_word rules.entry) (plain_word report.entry) }
+    ensures { option_map plain_request result
+        ≡ request_of (row_of name) (texts words.now) (plain_word rules.entry) (plain_word report.entry) }
 {
     if is_misfit(name, words, rules.is_some(), report.is_some()) {
         return None;

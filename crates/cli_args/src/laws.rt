@@ -56,12 +56,14 @@ pub fn verify_takes_three_files()
 
 /// `entries` with the name of a file requests its entries.
 pub fn entries_takes_one_file()
-    ensures { (library : List ℕ) → IsNoOption library → arguments_by (codes "entries" ∷ library ∷ []) ≡ request (entries library) }
+    ensures { (library : List ℕ) → IsNoOption library → arguments_by (codes "entries" ∷ library ∷ [])
+        ≡ request (entries library) }
 {}
 
 /// `exports` with the name of a file requests its exports.
 pub fn exports_takes_one_file()
-    ensures { (library : List ℕ) → IsNoOption library → arguments_by (codes "exports" ∷ library ∷ []) ≡ request (exports library) }
+    ensures { (library : List ℕ) → IsNoOption library → arguments_by (codes "exports" ∷ library ∷ [])
+        ≡ request (exports library) }
 {}
 
 /// `trial` with a decimal number from 1 to 50,000 requests a trial of this many functions.
@@ -77,13 +79,15 @@ pub fn migrate_takes_three_files()
 
 /// `compose` with the names of five files requests the composition of the certificates in the last two.
 pub fn compose_takes_five_files()
-    ensures { (first middle last certificate1 certificate2 : List ℕ) → IsNoOption first → IsNoOption middle → IsNoOption last → IsNoOption certificate1 → IsNoOption certificate2
+    ensures { (first middle last certificate1 certificate2 : List ℕ) → IsNoOption first → IsNoOption middle
+        → IsNoOption last → IsNoOption certificate1 → IsNoOption certificate2
         → arguments_by (codes "compose" ∷ first ∷ middle ∷ last ∷ certificate1 ∷ certificate2 ∷ []) ≡ request (compose first middle last certificate1 certificate2) }
 {}
 
 /// `layout` with the name of a file and a tag requests the layout of the structure with this tag.
 pub fn layout_takes_a_file_and_a_tag()
-    ensures { (library tag : List ℕ) → IsNoOption library → IsNoOption tag → arguments_by (codes "layout" ∷ library ∷ tag ∷ []) ≡ request (layout library tag) }
+    ensures { (library tag : List ℕ) → IsNoOption library → IsNoOption tag
+        → arguments_by (codes "layout" ∷ library ∷ tag ∷ []) ≡ request (layout library tag) }
 {}
 
 /// `app` with the names of three files requests a check of whether the third one may replace the second for the application in the

@@ -107,7 +107,8 @@ fn wrong_count<'a>(
     words: &[&'a str],
     report: Option<&'a str>,
 ) -> Option<WrongWords<'a>>
-    ensures { option_map plain_wrong result ≡ spec.wrong_count_of (row_of name) command.entry.now (texts words.now) (plain_word report.entry) }
+    ensures { option_map plain_wrong result
+        ≡ spec.wrong_count_of (row_of name) command.entry.now (texts words.now) (plain_word report.entry) }
 {
     let taken = taken_by(name);
     let wanted = taken.count;

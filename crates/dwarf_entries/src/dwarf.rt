@@ -116,7 +116,8 @@ impl<'a> Dwarf<'a> {
         tag: u64,
     ) -> Result<Vec<EntryNumber>, NoMemory>
         requires { e < length self.now.tree.entries }
-        ensures children { IfOk result (λ list. list.items ≡ filter (is_tagged self.now.tree tag) (children_of self.now.tree e)) }
+        ensures children { IfOk result (λ list. list.items
+            ≡ filter (is_tagged self.now.tree tag) (children_of self.now.tree e)) }
         ensures inside { IfOk result (λ list. All (λ child. child < length self.now.tree.entries) list.items) }
         ensures named { IfErr result (λ e. e ≡ Allocation) }
     {

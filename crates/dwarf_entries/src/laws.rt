@@ -13,13 +13,16 @@ use dwarf_units::laws::units_stand_one_after_another;
 
 /// The entry for an address is the first entry at this address, and None means that there is none.
 pub fn the_first_entry_stands_for_an_address()
-    ensures found { (d : PlainDwarf) (address e : ℕ) → IsOrdered d.tree → typed_of d address ≡ Some e → IsFirstEntry d.tree (is_typed_at d address) e }
-    ensures none { (d : PlainDwarf) (address e : ℕ) → typed_of d address ≡ None → e < length d.tree.entries → is_typed_at d address e ≡ false }
+    ensures found { (d : PlainDwarf) (address e : ℕ) → IsOrdered d.tree → typed_of d address ≡ Some e
+        → IsFirstEntry d.tree (is_typed_at d address) e }
+    ensures none { (d : PlainDwarf) (address e : ℕ) → typed_of d address ≡ None → e < length d.tree.entries
+        → is_typed_at d address e ≡ false }
 {}
 
 /// The entry for a signature is the type entry of the first type unit with this signature.
 pub fn the_first_unit_has_a_signature()
-    ensures { (info abbrevs : List ℕ) (signature e : ℕ) → signed_of (tree_of info abbrevs) signature ≡ Some e → IsOfFirstUnit (tree_of info abbrevs) signature e }
+    ensures { (info abbrevs : List ℕ) (signature e : ℕ) → signed_of (tree_of info abbrevs) signature ≡ Some e
+        → IsOfFirstUnit (tree_of info abbrevs) signature e }
 {
     units_stand_one_after_another();
 }
@@ -33,6 +36,9 @@ pub fn an_entry_without_a_fault_is_sound()
 /// If no entry has a fault, the type of an entry along its chain is an entry, and the entry has a name exactly when an entry of its
 /// chain has one.
 pub fn types_and_names_are_there()
-    ensures types { (d : PlainDwarf) (e : ℕ) → AreFaultless d → e < length d.tree.entries → is_read_tag (tag_at d.tree e) ≡ true → RefersThere d.tree (attribute_along d.tree e dw_at_type) }
-    ensures names { (d : PlainDwarf) (e : ℕ) → AreFaultless d → e < length d.tree.entries → is_read_tag (tag_at d.tree e) ≡ true → is_some (attribute_along d.tree e dw_at_name) ≡ is_some (name_of d e) }
+    ensures types { (d : PlainDwarf) (e : ℕ) → AreFaultless d → e < length d.tree.entries
+        → is_read_tag (tag_at d.tree e) ≡ true → RefersThere d.tree (attribute_along d.tree e dw_at_type) }
+    ensures names { (d : PlainDwarf) (e : ℕ) → AreFaultless d → e < length d.tree.entries
+        → is_read_tag (tag_at d.tree e) ≡ true → is_some (attribute_along d.tree e dw_at_name)
+        ≡ is_some (name_of d e) }
 {}

@@ -199,7 +199,8 @@ impl<'a> Links<'a> {
     #[inline(never)]
     fn held_within(&self, e: EntryNumber, entries: usize, name: u64) -> Option<(EntryNumber, Value)>
         requires { e < length self.now.entries }
-        ensures holder { option_map (λ held. held.0) result ≡ find (λ f. is_some (own_of self.now f name)) (chain_within self.now e entries) }
+        ensures holder { option_map (λ held. held.0) result
+            ≡ find (λ f. is_some (own_of self.now f name)) (chain_within self.now e entries) }
         ensures value { IfSome result (λ held. own_of self.now held.0 name ≡ Some held.1) }
         ensures inside { IfSome result (λ held. held.0 < length self.now.entries) }
     {

@@ -15,7 +15,8 @@ pub(crate) fn keep_first<P: Drop>(
     number: Option<u64>,
     place: P,
 ) -> Result<(), NoMemory>
-    ensures kept { OnOk result ((q : ℕ) → place_under places.new q ≡ option_or (place_under places.old q) (if is_some_number q number then Some place else None)) }
+    ensures kept { OnOk result ((q : ℕ) → place_under places.new q
+        ≡ option_or (place_under places.old q) (if is_some_number q number then Some place else None)) }
     ensures named { IfErr result (λ e. e ≡ Allocation) }
 {
     match number {

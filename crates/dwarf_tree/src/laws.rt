@@ -10,7 +10,8 @@ use dwarf_units::laws::{
 
 /// The tree of a section without a fault is in order. No section has more entries than bytes.
 pub fn a_section_is_in_order()
-    ensures ordered { (info abbrevs : List ℕ) → length info < 2 ^ 32 → entries_fault info abbrevs ≡ None → IsOrdered (tree_of info abbrevs) }
+    ensures ordered { (info abbrevs : List ℕ) → length info < 2 ^ 32 → entries_fault info abbrevs ≡ None
+        → IsOrdered (tree_of info abbrevs) }
     ensures few { (info abbrevs : List ℕ) → length (tree_of info abbrevs).entries ≤ length info }
 {
     a_unit_is_one_tree();
@@ -26,7 +27,9 @@ pub fn children_stand_one_deeper()
 
 /// If a section has no fault, each entry of a depth above 0 is the child of exactly one entry.
 pub fn each_has_one_parent()
-    ensures { (info abbrevs : List ℕ) (i : ℕ) → entries_fault info abbrevs ≡ None → i < length (tree_of info abbrevs).entries → 0 < depth_at (tree_of info abbrevs) i → HasOneParent (tree_of info abbrevs) i }
+    ensures { (info abbrevs : List ℕ) (i : ℕ) → entries_fault info abbrevs ≡ None
+        → i < length (tree_of info abbrevs).entries → 0 < depth_at (tree_of info abbrevs) i
+        → HasOneParent (tree_of info abbrevs) i }
 {
     a_unit_is_one_tree();
     units_stand_one_after_another();
@@ -37,6 +40,8 @@ pub fn each_has_one_parent()
 /// and the children after that.
 pub fn children_follow_one_another()
     ensures first { (t : PlainTree) (e : ℕ) → next_child_of t e None ≡ slice_get (children_of t e) 0 }
-    ensures next { (t : PlainTree) (e k child : ℕ) → slice_get (children_of t e) k ≡ Some child → next_child_of t e (Some child) ≡ slice_get (children_of t e) (k + 1) }
-    ensures left { (t : PlainTree) (e : ℕ) (after : Option ℕ) → filter (is_after after) (children_of t e) ≡ from_child t e (next_child_of t e after) }
+    ensures next { (t : PlainTree) (e k child : ℕ) → slice_get (children_of t e) k ≡ Some child
+        → next_child_of t e (Some child) ≡ slice_get (children_of t e) (k + 1) }
+    ensures left { (t : PlainTree) (e : ℕ) (after : Option ℕ)
+        → filter (is_after after) (children_of t e) ≡ from_child t e (next_child_of t e after) }
 {}

@@ -33,9 +33,11 @@ fn push_entries(
     requires few { length growing.old.tree.entries + length (entries_of (plain_unit unit.now)).items < 2 ^ 32 }
     requires told { All (IsTold growing.old.abbrevs (plain_unit unit.now)) (entries_of (plain_unit unit.now)).items }
     ensures judged { Judges result (entries_of (plain_unit unit.now)).end }
-    ensures grown { OnOk result (growing.new ≡ now_with growing.old growing.old.tree.units (growing.old.tree.entries ++ placed_entries (number, plain_unit unit.now))) }
+    ensures grown { OnOk result (growing.new
+        ≡ now_with growing.old growing.old.tree.units (growing.old.tree.entries ++ placed_entries (number, plain_unit unit.now))) }
     ensures within { OnOk result (attributes_count (plain_unit unit.now) ≤ attributes_allowed (plain_unit unit.now)) }
-    ensures past { IfErr result (λ e. OnPast e (λ l. (l ≡ Attributes) × (attributes_allowed (plain_unit unit.now) < attributes_count (plain_unit unit.now)))) }
+    ensures past { IfErr result (λ e. OnPast e (λ l. (l ≡ Attributes)
+        × (attributes_allowed (plain_unit unit.now) < attributes_count (plain_unit unit.now)))) }
 {
     let mut budget = attributes_budget(unit);
     let mut left = entries(unit);
@@ -56,9 +58,11 @@ fn push_unit(alloc: Global, growing: &mut TreeBuilder<'_>, unit: &Unit<'_>) -> R
     requires small { length growing.old.abbrevs < 2 ^ 32 }
     requires told { All (IsTold growing.old.abbrevs (plain_unit unit.now)) (entries_of (plain_unit unit.now)).items }
     ensures judged { Judges result (entries_of (plain_unit unit.now)).end }
-    ensures grown { OnOk result (growing.new ≡ now_with growing.old (with_unit growing.old.tree (plain_unit unit.now)).units (with_unit growing.old.tree (plain_unit unit.now)).entries) }
+    ensures grown { OnOk result (growing.new
+        ≡ now_with growing.old (with_unit growing.old.tree (plain_unit unit.now)).units (with_unit growing.old.tree (plain_unit unit.now)).entries) }
     ensures within { OnOk result (attributes_count (plain_unit unit.now) ≤ attributes_allowed (plain_unit unit.now)) }
-    ensures past { IfErr result (λ e. OnPast e (λ l. (l ≡ Attributes) × (attributes_allowed (plain_unit unit.now) < attributes_count (plain_unit unit.now)))) }
+    ensures past { IfErr result (λ e. OnPast e (λ l. (l ≡ Attributes)
+        × (attributes_allowed (plain_unit unit.now) < attributes_count (plain_unit unit.now)))) }
 {
     let number = growing.units_len() as u32;
     growing.push_head(Head {

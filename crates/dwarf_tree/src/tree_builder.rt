@@ -102,7 +102,8 @@ impl<'a> TreeBuilder<'a> {
         info: &'a [u8],
         abbrevs: &'a [u8],
     ) -> Result<TreeBuilder<'a>, NoMemory>
-        ensures empty { IfOk result (λ g. g ≡ record { info = info.now; abbrevs = abbrevs.now; tree = record { units = []; entries = [] } }) }
+        ensures empty { IfOk result (λ g. g
+            ≡ record { info = info.now; abbrevs = abbrevs.now; tree = record { units = []; entries = [] } }) }
         ensures named { IfErr result (λ e. e ≡ Allocation) }
     {
         Ok(TreeBuilder {
@@ -159,7 +160,8 @@ impl<'a> TreeBuilder<'a> {
     /// Appends the header of a unit.
     pub fn push_head(&mut self, head: Head) -> Result<(), NoMemory>
         requires { head.end ≤ length self.old.info }
-        ensures pushed { OnOk result (self.new ≡ now_with self.old (self.old.tree.units ++ head ∷ []) self.old.tree.entries) }
+        ensures pushed { OnOk result (self.new
+            ≡ now_with self.old (self.old.tree.units ++ head ∷ []) self.old.tree.entries) }
         ensures named { IfErr result (λ e. e ≡ Allocation) }
     {
         self.units.push(head)?;
@@ -173,8 +175,10 @@ impl<'a> TreeBuilder<'a> {
         requires specs { entry.now.specs_from < 2 ^ 32 }
         requires few { length self.old.tree.entries + 1 < 2 ^ 32 }
         requires names { pair_names self.old.abbrevs entry.now.specs_from ≡ names_in entry.now.attributes }
-        requires values { decoder self.old.info self.old.abbrevs self.old.tree.units (kept_of 0 unit entry.now) ≡ entry.now.attributes }
-        ensures pushed { OnOk result (self.new ≡ now_with self.old self.old.tree.units (self.old.tree.entries ++ placed unit entry.now ∷ [])) }
+        requires values { decoder self.old.info self.old.abbrevs self.old.tree.units (kept_of 0 unit entry.now)
+            ≡ entry.now.attributes }
+        ensures pushed { OnOk result (self.new
+            ≡ now_with self.old self.old.tree.units (self.old.tree.entries ++ placed unit entry.now ∷ [])) }
         ensures named { IfErr result (λ e. e ≡ Allocation) }
     {
         store(

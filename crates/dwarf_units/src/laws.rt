@@ -18,22 +18,26 @@ use dwarf_forms::laws::reading_moves_on_inside_the_unit;
 /// the entries below it, then only 0 bytes (DWARF 5, section 2.3 "Relationship of Debugging Information Entries"). In a type unit,
 /// one of them must also be at the type offset of the header.
 pub fn a_unit_is_one_tree()
-    ensures { (u : PlainUnit) (entries : List Entry) → (entries_of u ≡ faultless entries) ↔ (IsTree u entries × HasType u entries) }
+    ensures { (u : PlainUnit) (entries : List Entry) → (entries_of u ≡ faultless entries) ↔ (IsTree u entries
+        × HasType u entries) }
 {
     reading_moves_on_inside_the_unit();
 }
 
 /// The units of a section follow one another, each inside it, up to the section's end or the first fault.
 pub fn units_stand_one_after_another()
-    ensures chain { (info abbrevs : List ℕ) → Chain (unit_step info abbrevs) 0 (units_of info abbrevs).items (units_of info abbrevs).end }
-    ensures inside { (info abbrevs : List ℕ) (at : ℕ) (u : PlainUnit) (next : ℕ) → unit_step info abbrevs at ≡ Ok (u, next) → UnitStands info at u next }
+    ensures chain { (info abbrevs : List ℕ)
+        → Chain (unit_step info abbrevs) 0 (units_of info abbrevs).items (units_of info abbrevs).end }
+    ensures inside { (info abbrevs : List ℕ) (at : ℕ) (u : PlainUnit) (next : ℕ)
+        → unit_step info abbrevs at ≡ Ok (u, next) → UnitStands info at u next }
 {}
 
 /// The tokens of a unit are its entries and the ends of its lists. They follow one another up to the unit's end or the first fault.
 /// The unit's entries are the entries among them.
 pub fn tokens_stand_one_after_another()
     ensures chain { (u : PlainUnit) (s : State) → Chain (token_at u) s (tokens_from u s).items (tokens_from u s).end }
-    ensures there { (u : PlainUnit) (s : State) (x : Option Entry) (next : State) → token_at u s ≡ Ok (x, next) → TokenStands u s x next }
+    ensures there { (u : PlainUnit) (s : State) (x : Option Entry) (next : State) → token_at u s ≡ Ok (x, next)
+        → TokenStands u s x next }
     ensures entries { (u : PlainUnit) → (entries_of u).items ≡ (given (tokens_from u (root_of u, None))).items }
 {
     reading_moves_on_inside_the_unit();
@@ -42,13 +46,15 @@ pub fn tokens_stand_one_after_another()
 /// A unit of version 4 is a partial unit exactly when its root has no fault and the tag `DW_TAG_partial_unit`. A unit whose root
 /// has a fault has no entries.
 pub fn a_root_says_whether_a_unit_is_partial()
-    ensures { (info abbrevs : List ℕ) → All (λ (u : PlainUnit). u.version ≡ dwarf_4 → u.partial ≡ begins_partial (entries_of u).items) (units_of info abbrevs).items }
+    ensures { (info abbrevs : List ℕ) → All (λ (u : PlainUnit). u.version ≡ dwarf_4
+        → u.partial ≡ begins_partial (entries_of u).items) (units_of info abbrevs).items }
 {}
 
 /// The units end with the fault of the first unit that is not whole: that of the first row of its header that holds, or else that
 /// of its abbreviation table. Where they end without a fault, all are whole up to the section's end.
 pub fn a_header_has_its_first_row()
-    ensures fault { (info abbrevs : List ℕ) (f : Fault) → ((units_of info abbrevs).end ≡ Some f) ↔ IsFaultOfUnits info abbrevs f }
+    ensures fault { (info abbrevs : List ℕ) (f : Fault)
+        → ((units_of info abbrevs).end ≡ Some f) ↔ IsFaultOfUnits info abbrevs f }
     ensures none { (info abbrevs : List ℕ) → ((units_of info abbrevs).end ≡ None) ↔ AreWhole info abbrevs }
 {}
 
@@ -65,7 +71,8 @@ pub fn a_fault_is_the_first_row_of_its_place()
 /// that the entry gives.
 pub fn values_stand_where_told()
     ensures info { (info abbrevs : List ℕ) → All (λ (u : PlainUnit). u.info ≡ info) (units_of info abbrevs).items }
-    ensures told { (info abbrevs : List ℕ) → All (λ (u : PlainUnit). All (IsTold abbrevs u) (entries_of u).items) (units_of info abbrevs).items }
+    ensures told { (info abbrevs : List ℕ)
+        → All (λ (u : PlainUnit). All (IsTold abbrevs u) (entries_of u).items) (units_of info abbrevs).items }
 {
     pairs_stand_where_told();
     reading_moves_on_inside_the_unit();

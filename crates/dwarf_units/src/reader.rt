@@ -80,7 +80,8 @@ pub struct Following<'u, 'a> {
 fn pass_ends(unit: &Unit<'_>, from: usize, nested: u32) -> (usize, u32)
     requires { nested ≤ from }
     ensures few { result.1 ≤ result.0 }
-    ensures same { (met : Bool) → entries_left (plain_unit unit.now) (from, Some nested) met ≡ entries_left (plain_unit unit.now) (result.0, Some result.1) met }
+    ensures same { (met : Bool) → entries_left (plain_unit unit.now) (from, Some nested) met
+        ≡ entries_left (plain_unit unit.now) (result.0, Some result.1) met }
 {
     reading_moves_on_inside_the_unit();
     let mut at = from;
@@ -103,7 +104,8 @@ fn inner_entry_in<'u, 'a>(unit: &'u Unit<'a>, at: usize, lists: u32) -> Option<F
     requires before { at < unit.now.end }
     requires some { 0 < lists }
     requires few { lists ≤ at }
-    ensures { IfSome result (λ f. token_at (plain_unit unit.now) (at, Some lists) ≡ Ok (Some f.entry, (f.at, Some f.lists))) }
+    ensures { IfSome result (λ f. token_at (plain_unit unit.now) (at, Some lists)
+        ≡ Ok (Some f.entry, (f.at, Some f.lists))) }
 {
     let Some((code, after)) = uleb(&unit.info[..unit.end.get() as usize], at) else {
         return None;
@@ -161,7 +163,7 @@ fn next_in<'u, 'a>(
     any_in(alloc, unit, from, inside, met)
 }
 
-// The same, for any entry.
+// The next entry at an offset, also where it is in no list or has a fault.
 #[inline(never)]
 #[tactic(auto, using(crate::proofs::EntriesLeft::left_pass, crate::proofs::EntriesLeft::left_end, crate::proofs::TokenLaws::token_moves))]
 fn any_in<'u, 'a>(

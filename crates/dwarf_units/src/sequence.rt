@@ -107,7 +107,8 @@ impl<'a> Units<'a> {
         budget: &mut Budget,
     ) -> Result<Option<Unit<'a>>, Refusal>
         ensures next { NextIsBy plain_unit self.old result self.new }
-        ensures taken { IfOk result (λ o. MatchOption o (budget.new ≡ budget.old) (λ u. TakesAtMost budget.old budget.new (table_cost (plain_unit u)))) }
+        ensures taken { IfOk result (λ o. MatchOption o (budget.new
+            ≡ budget.old) (λ u. TakesAtMost budget.old budget.new (table_cost (plain_unit u)))) }
         ensures past { IfErr result (λ e. OnPast e (PassesLeft table_cost self.old budget.old)) }
     {
         if self.at >= self.info.len() {

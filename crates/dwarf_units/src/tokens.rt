@@ -211,7 +211,8 @@ fn inner_in<'u, 'a>(unit: &'u Unit<'a>, at: usize, lists: u32) -> Result<Token<'
 pub fn end_in(unit: &Unit<'_>, at: usize, lists: u32) -> Option<usize>
     requires before { at < unit.now.end }
     requires some { 0 < lists }
-    ensures ends { IfSome result (λ after. token_at (plain_unit unit.now) (at, Some lists) ≡ Ok (None, (after, Some (lists - 1)))) }
+    ensures ends { IfSome result (λ after. token_at (plain_unit unit.now) (at, Some lists)
+        ≡ Ok (None, (after, Some (lists - 1)))) }
     ensures after { IfSome result (λ after. at < after) }
 {
     let Some((code, after)) = uleb(&unit.info[..unit.end.get() as usize], at) else {

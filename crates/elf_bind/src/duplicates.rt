@@ -20,8 +20,12 @@ fn stood_before<'a>(
     versioned: &mut BTreeSet<(u64, &'a [u8], &'a [u8])>,
     export: &Export<'a>,
 ) -> Result<bool, AllocError>
-    ensures says { IfOk result (λ stood. (before : List PlainExport) → EarlierExports unversioned.old versioned.old before → stood ≡ list_any (is_same (plain_export export.now)) before) }
-    ensures adds { IfOk result (λ stood. (before : List PlainExport) → EarlierExports unversioned.old versioned.old before → EarlierExports unversioned.new versioned.new (before ++ plain_export export.now ∷ [])) }
+    ensures says { IfOk result (λ stood. (before : List PlainExport)
+        → EarlierExports unversioned.old versioned.old before
+        → stood ≡ list_any (is_same (plain_export export.now)) before) }
+    ensures adds { IfOk result (λ stood. (before : List PlainExport)
+        → EarlierExports unversioned.old versioned.old before
+        → EarlierExports unversioned.new versioned.new (before ++ plain_export export.now ∷ [])) }
 {
     let code = code_of(export.name);
     let is_new = match export.version {

@@ -67,7 +67,8 @@ fn export_with<'a>(symbol: &Symbol<'a>, version: &Version<'a>) -> Export<'a>
 
 /// The export that a symbol with this version is, or None if it is not an export.
 pub fn export_of<'a>(symbol: &Symbol<'a>, version: Option<Version<'a>>) -> Option<Export<'a>>
-    ensures { option_map plain_export result ≡ spec.export_of (plain_symbol symbol.now) (option_map plain_version version.entry) }
+    ensures { option_map plain_export result
+        ≡ spec.export_of (plain_symbol symbol.now) (option_map plain_version version.entry) }
 {
     match version {
         None => None,

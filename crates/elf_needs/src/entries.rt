@@ -34,10 +34,12 @@ fn keep_first<'a>(
     need: Need<'a>,
     budget: &mut Budget,
 ) -> Result<(), NoMemory>
-    ensures kept { OnOk result ((q : ℕ) → need_under by_index.new q ≡ option_or (need_under by_index.old q) (if nat_eq index q then Some (plain_need need.entry) else None)) }
+    ensures kept { OnOk result ((q : ℕ) → need_under by_index.new q
+        ≡ option_or (need_under by_index.old q) (if nat_eq index q then Some (plain_need need.entry) else None)) }
     ensures taken { OnOk result (budget.new ≡ with_taken budget.old (vernaux_size + length need.entry.version.now)) }
     ensures within { OnOk result (budget.old.taken + (vernaux_size + length need.entry.version.now) ≤ budget.old.most) }
-    ensures past { IfErr result (λ e. OnLimit e (λ l. (l ≡ budget.old.limit) × (budget.old.most < budget.old.taken + (vernaux_size + length need.entry.version.now)))) }
+    ensures past { IfErr result (λ e. OnLimit e (λ l. (l ≡ budget.old.limit)
+        × (budget.old.most < budget.old.taken + (vernaux_size + length need.entry.version.now)))) }
 {
     budget.take(VERNAUX_SIZE + need.version.len())?;
     if !by_index.contains_key(&index) {
@@ -58,10 +60,13 @@ fn keep_each<'a>(
     requires small { length table.now ≤ input_limit }
     requires sound { budget.old.taken ≤ budget.old.most }
     ensures judged { Judges result (fault_if (has_bad_entry table.now strings.now need.now.number) kind.VersionNeed need.now.number) }
-    ensures kept { OnOk result ((q : ℕ) → need_under by_index.new q ≡ option_or (need_under by_index.old q) (need_among (entries_of_need table.now strings.now need.now.number) q)) }
-    ensures taken { OnOk result (budget.new ≡ with_taken budget.old (entries_cost table.now strings.now need.now.number (entry_count table.now need.now.number))) }
+    ensures kept { OnOk result ((q : ℕ) → need_under by_index.new q
+        ≡ option_or (need_under by_index.old q) (need_among (entries_of_need table.now strings.now need.now.number) q)) }
+    ensures taken { OnOk result (budget.new
+        ≡ with_taken budget.old (entries_cost table.now strings.now need.now.number (entry_count table.now need.now.number))) }
     ensures within { OnOk result (budget.old.taken + entries_cost table.now strings.now need.now.number (entry_count table.now need.now.number) ≤ budget.old.most) }
-    ensures past { IfErr result (λ e. OnPast e (λ l. (l ≡ budget.old.limit) × (budget.old.most < budget.old.taken + entries_cost table.now strings.now need.now.number (entry_count table.now need.now.number)))) }
+    ensures past { IfErr result (λ e. OnPast e (λ l. (l ≡ budget.old.limit)
+        × (budget.old.most < budget.old.taken + entries_cost table.now strings.now need.now.number (entry_count table.now need.now.number)))) }
 {
     let mut at = need.first;
     for entry in 0..need.entries {
@@ -87,10 +92,12 @@ fn keep_entries<'a>(
     requires of_need { IsNeed need.now table.now strings.now }
     requires small { length table.now ≤ input_limit }
     ensures judged { Judges result (fault_if (has_bad_entry table.now strings.now need.now.number) kind.VersionNeed need.now.number) }
-    ensures kept { OnOk result ((q : ℕ) → need_under by_index.new q ≡ option_or (need_under by_index.old q) (need_among (entries_of_need table.now strings.now need.now.number) q)) }
+    ensures kept { OnOk result ((q : ℕ) → need_under by_index.new q
+        ≡ option_or (need_under by_index.old q) (need_among (entries_of_need table.now strings.now need.now.number) q)) }
     ensures taken { OnOk result (budget.new ≡ with_taken budget.old (need_cost table.now strings.now need.now.number)) }
     ensures within { OnOk result (budget.old.taken + need_cost table.now strings.now need.now.number ≤ budget.old.most) }
-    ensures past { IfErr result (λ e. OnPast e (λ l. (l ≡ budget.old.limit) × (budget.old.most < budget.old.taken + need_cost table.now strings.now need.now.number))) }
+    ensures past { IfErr result (λ e. OnPast e (λ l. (l ≡ budget.old.limit)
+        × (budget.old.most < budget.old.taken + need_cost table.now strings.now need.now.number))) }
 {
     budget.take(VERNEED_SIZE + need.file.len())?;
     keep_each(by_index, table, strings, need, budget)?;
@@ -108,7 +115,8 @@ pub fn needs_in<'a>(
     requires table { length table.now ≤ input_limit }
     requires strings { length strings.now ≤ input_limit }
     ensures judged { Judges result (first (map (need_fault table.now strings.now count) (range_with_len 0 count))) }
-    ensures read { IfOk result (λ by_index. (q : ℕ) → need_under by_index q ≡ need_among (entries_of table.now strings.now count) q) }
+    ensures read { IfOk result (λ by_index. (q : ℕ) → need_under by_index q
+        ≡ need_among (entries_of table.now strings.now count) q) }
     ensures few { OnOk result (AreFewNeedsIn table.now strings.now count) }
     ensures past { IfErr result (λ e. OnPast e (PassesNeedsIn table.now strings.now count)) }
 {

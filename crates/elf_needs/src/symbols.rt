@@ -18,7 +18,8 @@ use std::alloc::Global;
 // The version indexes of the first `symbols` symbols, in order.
 fn indexes_in(alloc: Global, table: Option<&[u8]>, symbols: usize) -> Result<Vec<u16>, NoMemory>
     requires { IfSome table (λ t. length t.now ≡ versym_size * symbols) }
-    ensures read { IfOk result (λ all. all.items ≡ map (λ i. index_in (option_copied table.entry) i % versym_hidden) (range_with_len 0 symbols)) }
+    ensures read { IfOk result (λ all. all.items
+        ≡ map (λ i. index_in (option_copied table.entry) i % versym_hidden) (range_with_len 0 symbols)) }
     ensures named { IfErr result (λ e. e ≡ Allocation) }
 {
     let mut all = Vec::new(alloc);

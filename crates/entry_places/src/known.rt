@@ -146,7 +146,8 @@ impl<'a> Known<'a> {
     ) -> Result<Option<Vec<u8>>, NoMemory>
         requires known { IsKnown places.now self.old }
         requires inside { unit < length (entries_in places.now).units }
-        ensures file { IfOk result (λ file. option_map (λ f. f.items) file ≡ file_of places.now (entries_in places.now) unit number) }
+        ensures file { IfOk result (λ file. option_map (λ f. f.items) file
+            ≡ file_of places.now (entries_in places.now) unit number) }
         ensures known { IsKnown places.now self.new }
     {
         let said = self.unit(places, unit)?;

@@ -77,7 +77,8 @@ fn push_untyped(
     exports: SizedExports,
 ) -> Result<(), NoMemory>
     requires { All (λ note. IsTrue (is_one_line note)) (map string_bytes notes.old.items) }
-    ensures notes { IfOk result (λ _. map string_bytes notes.new.items ≡ map string_bytes notes.old.items ++ untyped_notes path.now exports) }
+    ensures notes { IfOk result (λ _. map string_bytes notes.new.items
+        ≡ map string_bytes notes.old.items ++ untyped_notes path.now exports) }
     ensures lines { IfOk result (λ _. All (λ note. IsTrue (is_one_line note)) (map string_bytes notes.new.items)) }
 {
     match untyped_sentence(alloc, path, exports)? {
@@ -95,7 +96,8 @@ fn push_lost(
     remark: Remark,
 ) -> Result<(), NoMemory>
     requires { All (λ note. IsTrue (is_one_line note)) (map string_bytes notes.old.items) }
-    ensures notes { IfOk result (λ _. map string_bytes notes.new.items ≡ map string_bytes notes.old.items ++ lost_notes remark old.now new.now) }
+    ensures notes { IfOk result (λ _. map string_bytes notes.new.items
+        ≡ map string_bytes notes.old.items ++ lost_notes remark old.now new.now) }
     ensures lines { IfOk result (λ _. All (λ note. IsTrue (is_one_line note)) (map string_bytes notes.new.items)) }
 {
     match lost_sentence(alloc, new, old, remark)? {
@@ -112,7 +114,8 @@ fn push_sizeless(
     exports: SizedExports,
 ) -> Result<(), NoMemory>
     requires { All (λ note. IsTrue (is_one_line note)) (map string_bytes notes.old.items) }
-    ensures notes { IfOk result (λ _. map string_bytes notes.new.items ≡ map string_bytes notes.old.items ++ sizeless_notes path.now exports) }
+    ensures notes { IfOk result (λ _. map string_bytes notes.new.items
+        ≡ map string_bytes notes.old.items ++ sizeless_notes path.now exports) }
     ensures lines { IfOk result (λ _. All (λ note. IsTrue (is_one_line note)) (map string_bytes notes.new.items)) }
 {
     match sizeless_sentence(alloc, path, exports)? {

@@ -92,7 +92,8 @@ fn differs_sentence(
     role: &str,
     certificate: &str,
 ) -> Result<String, NoMemory>
-    ensures says { IfOk result (λ text. string_bytes text ≡ said_of path.now (spec.other_words role.now certificate.now)) }
+    ensures says { IfOk result (λ text. string_bytes text
+        ≡ said_of path.now (spec.other_words role.now certificate.now)) }
     ensures line { IfOk result (λ text. IsTrue (is_one_line (string_bytes text))) }
 {
     let words = other_words(alloc, role, certificate)?;

@@ -48,7 +48,8 @@ fn is_of_type(header: &[u8], wanted: u32) -> bool
 
 // The program header with an index, if it is that of a segment of a type.
 fn header_of_type(bytes: &[u8], table: u64, index: u16, wanted: u32) -> Option<&[u8]>
-    ensures found { option_copied result ≡ find (spec.is_of_type wanted) (cons_option (header_with bytes.now table index) []) }
+    ensures found { option_copied result
+        ≡ find (spec.is_of_type wanted) (cons_option (header_with bytes.now table index) []) }
     ensures long { IfSome result (λ header. length header.now ≡ 56) }
 {
     match header_at(bytes, table, index) {

@@ -46,7 +46,8 @@ pub fn uncomposed_sentence(
     first: &str,
     last: &str,
 ) -> Result<String, NoMemory>
-    ensures says { IfOk result (λ text. string_bytes text ≡ said_of path.now (spec.uncomposed_words second.now first.now last.now)) }
+    ensures says { IfOk result (λ text. string_bytes text
+        ≡ said_of path.now (spec.uncomposed_words second.now first.now last.now)) }
     ensures line { IfOk result (λ text. IsTrue (is_one_line (string_bytes text))) }
 {
     let words = uncomposed_words(alloc, second, first, last)?;

@@ -33,7 +33,8 @@ pub fn untyped_sentence(
     exports: SizedExports,
 ) -> Result<Option<String>, NoMemory>
     ensures none { IfOk result (λ said. is_none said ≡ (exports.untyped == 0)) }
-    ensures says { IfOk result (λ said. IfSome said (λ text. string_bytes text ≡ said_of path.now (untyped_words exports))) }
+    ensures says { IfOk result (λ said. IfSome said (λ text. string_bytes text
+        ≡ said_of path.now (untyped_words exports))) }
     ensures line { IfOk result (λ said. IfSome said (λ text. IsTrue (is_one_line (string_bytes text)))) }
 {
     if exports.untyped == 0 {
@@ -83,7 +84,8 @@ pub fn lost_sentence(
     remark: Remark,
 ) -> Result<Option<String>, NoMemory>
     ensures some { IfOk result (λ said. is_some said ≡ spec.loses_types remark) }
-    ensures says { IfOk result (λ said. IfSome said (λ text. string_bytes text ≡ said_of path.now (spec.lost_words old.now))) }
+    ensures says { IfOk result (λ said. IfSome said (λ text. string_bytes text
+        ≡ said_of path.now (spec.lost_words old.now))) }
     ensures line { IfOk result (λ said. IfSome said (λ text. IsTrue (is_one_line (string_bytes text)))) }
 {
     if !loses_types(remark) {

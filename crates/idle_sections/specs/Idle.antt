@@ -41,7 +41,7 @@ label_count n = length n.labels
 abbrev pub most_tests : PlainLibrary → ℕ
 most_tests library = length library.exports + 2 * sum_by label_count library.graph
 
--- The limit is that on tests, and with so many for one section, all sections take more than it allows.
+-- The limit is that on tests, and all sections together, each with this number of tests, take more than it allows.
 abbrev pub PassesTests : PlainRules → PlainLibrary → Limit → Type 0
 PassesTests rules library l =
     (l ≡ limit.IdleSections)

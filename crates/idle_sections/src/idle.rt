@@ -91,7 +91,8 @@ pub fn idle_sections<'r>(
     rules: &'r Rules,
     old: &Library<OldIx>,
 ) -> Result<List<&'r Section>, NoMemory>
-    ensures is { IfOk result (λ idle. map (λ (section : Bor PlainSection). section.now) idle ≡ idle_of rules.now old.now) }
+    ensures is { IfOk result (λ idle. map (λ (section : Bor PlainSection). section.now) idle
+        ≡ idle_of rules.now old.now) }
     ensures past { IfErr result (λ e. OnLimit e (PassesTests rules.now old.now)) }
 {
     let names = names_of(alloc, old.graph())?;

@@ -44,7 +44,8 @@ fn push_byte_of_step(
     passed: usize,
 ) -> Result<usize, NoMemory>
     requires { i < length path.now }
-    ensures appended { IfOk result (λ next. text.new.items ++ steps_behind next (drop (i + 1) path.now) ≡ text.old.items ++ steps_behind passed (drop i path.now)) }
+    ensures appended { IfOk result (λ next. text.new.items ++ steps_behind next (drop (i + 1) path.now)
+        ≡ text.old.items ++ steps_behind passed (drop i path.now)) }
     ensures named { IfErr result (λ e. e ≡ Allocation) }
 {
     if passed > 0 {
@@ -165,7 +166,8 @@ fn push_row(alloc: Global, text: &mut Vec<u8>, row: &Row) -> Result<(), NoMemory
 
 // Appends the objects of further rows.
 fn push_others(alloc: Global, text: &mut Vec<u8>, rows: &[Row]) -> Result<(), NoMemory>
-    ensures appended { OnOk result (text.new.items ≡ text.old.items ++ flat_map (λ (r : AnyRow). codes "," ++ row_text r) rows.now) }
+    ensures appended { OnOk result (text.new.items
+        ≡ text.old.items ++ flat_map (λ (r : AnyRow). codes "," ++ row_text r) rows.now) }
     ensures named { IfErr result (λ e. e ≡ Allocation) }
 {
     for row in rows {

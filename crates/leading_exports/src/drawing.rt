@@ -31,7 +31,8 @@ fn next_triple(
     requires unmarked { steps_spec.is_marked (scope_of ground.now).task visit.now.old visit.now.way ≡ false }
     requires old { visit.now.old < length ground.now.old.now }
     requires new { visit.now.new < length ground.now.new.now }
-    requires matches { matches.now ≡ comparisons.matches (view_at ground.now.old.now visit.now.old) (view_at ground.now.new.now visit.now.new) }
+    requires matches { matches.now
+        ≡ comparisons.matches (view_at ground.now.old.now visit.now.old) (view_at ground.now.new.now visit.now.new) }
     requires inside { i < length (view_at ground.now.old.now visit.now.old).parts }
     ensures { result ≡ rep_step (scope_of ground.now) (seen visit.now) i }
 {
@@ -85,8 +86,10 @@ fn push_along(
     requires unmarked { steps_spec.is_marked (scope_of walk.now.ground.now).task visit.now.old visit.now.way ≡ false }
     requires old { visit.now.old < length walk.now.ground.now.old.now }
     requires new { visit.now.new < length walk.now.ground.now.new.now }
-    requires matches { matches.now ≡ comparisons.matches (view_at walk.now.ground.now.old.now visit.now.old) (view_at walk.now.ground.now.new.now visit.now.new) }
-    ensures { OnOk result (arrows.new ≡ arrows.old ++ arrows_along (scope_of walk.now.ground.now) walk.now.numbers.now number (seen visit.now) (length (view_at walk.now.ground.now.old.now visit.now.old).parts)) }
+    requires matches { matches.now
+        ≡ comparisons.matches (view_at walk.now.ground.now.old.now visit.now.old) (view_at walk.now.ground.now.new.now visit.now.new) }
+    ensures { OnOk result (arrows.new
+        ≡ arrows.old ++ arrows_along (scope_of walk.now.ground.now) walk.now.numbers.now number (seen visit.now) (length (view_at walk.now.ground.now.old.now visit.now.old).parts)) }
 {
     'parts: for i in 0..parts_len(walk.ground, visit) {
         let next = next_triple(walk.ground, visit, matches, i);
@@ -105,7 +108,8 @@ fn push_from<L: Ledger>(
 ) -> Result<(), NoMemory>
     requires walk { IsWalk (scope_of walk.now.ground.now) walk.now.visits.now walk.now.numbers.now }
     requires number { number < length walk.now.visits.now }
-    ensures { OnOk result (arrows.new ≡ arrows.old ++ arrows_from (scope_of walk.now.ground.now) walk.now.visits.now walk.now.numbers.now number) }
+    ensures { OnOk result (arrows.new
+        ≡ arrows.old ++ arrows_from (scope_of walk.now.ground.now) walk.now.visits.now walk.now.numbers.now number) }
 {
     let visit = walk.visits.visit(number);
     if is_marked(walk.ground, visit.old, visit.way) {
@@ -126,7 +130,8 @@ pub fn arrows_of<L: Ledger>(
     steps: &mut Steps<L>,
 ) -> Result<List<Arrow>, NoMemory>
     requires { IsWalk (scope_of walk.now.ground.now) walk.now.visits.now walk.now.numbers.now }
-    ensures { IfOk result (λ arrows. arrows ≡ all_arrows (scope_of walk.now.ground.now) walk.now.visits.now walk.now.numbers.now) }
+    ensures { IfOk result (λ arrows. arrows
+        ≡ all_arrows (scope_of walk.now.ground.now) walk.now.visits.now walk.now.numbers.now) }
 {
     let mut arrows = List::new(alloc);
     'visits: for number in 0..walk.visits.len() {

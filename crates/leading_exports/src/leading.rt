@@ -33,7 +33,8 @@ fn is_of_pair(ground: &GraphPair, old: OldIx, new: NewIx, visit: &Visit) -> bool
 
 // A mark for each visit: whether it is of the two types, with an old node that is unmarked at its way.
 fn marks_of(alloc: Global, walk: &Walk, old: OldIx, new: NewIx) -> Result<Vec<bool>, NoMemory>
-    ensures ok { IfOk result (λ marks. marks.items ≡ map (spec.is_of_pair (scope_of walk.now.ground.now) old new) walk.now.visits.now) }
+    ensures ok { IfOk result (λ marks. marks.items
+        ≡ map (spec.is_of_pair (scope_of walk.now.ground.now) old new) walk.now.visits.now) }
     ensures named { IfErr result (λ e. e ≡ Allocation) }
 {
     let mut marks = Vec::new(alloc);
@@ -69,7 +70,8 @@ fn is_lead(walk: &Walk, marks: &[bool], root: &Root) -> bool
 // The exports of the roots that lead to a marked triple.
 fn leads_of(alloc: Global, walk: &Walk, marks: &[bool]) -> Result<List<u32>, NoMemory>
     requires { HasNodes (scope_of walk.now.ground.now) }
-    ensures ok { IfOk result (λ exports. exports ≡ map (λ (root : PlainRoot). root.export) (filter (spec.is_lead (scope_of walk.now.ground.now) walk.now.numbers.now marks.now) walk.now.ground.now.roots.now)) }
+    ensures ok { IfOk result (λ exports. exports
+        ≡ map (λ (root : PlainRoot). root.export) (filter (spec.is_lead (scope_of walk.now.ground.now) walk.now.numbers.now marks.now) walk.now.ground.now.roots.now)) }
     ensures named { IfErr result (λ e. e ≡ Allocation) }
 {
     let mut exports = Vec::new(alloc);

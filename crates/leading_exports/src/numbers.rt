@@ -63,7 +63,8 @@ impl Numbers {
 
     // Gives a triple a number.
     fn insert(&mut self, triple: &Triple, number: usize) -> Result<(), NoMemory>
-        ensures ok { OnOk result ((q : PlainTriple) → number_in self.new q ≡ cond (at_triple triple.now q) (Some number) (number_in self.old q)) }
+        ensures ok { OnOk result ((q : PlainTriple) → number_in self.new q
+            ≡ cond (at_triple triple.now q) (Some number) (number_in self.old q)) }
         ensures named { IfErr result (λ e. e ≡ Allocation) }
     {
         self.by_key.insert(key_of(triple), number)?;

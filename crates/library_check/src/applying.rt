@@ -92,8 +92,10 @@ fn read_imports(alloc: Global, bytes: &[u8]) -> Result<Vec<Import<'_>>, NotJudge
 
 // Why `app` gives no verdict, if the application is readable and an input that it shares with `check` is not.
 fn of_inputs(unread: Unchecked) -> NotJudged
-    ensures not_judged { (app old new rules : List ℕ) → app_fault app ≡ None → IsUnchecked old new rules unread → IsNotJudged app old new rules result }
-    ensures past { (old new rules : List ℕ) → OnUnchecked unread (InputsPass old new rules) → OnNotJudged result (InputsPass old new rules) }
+    ensures not_judged { (app old new rules : List ℕ) → app_fault app ≡ None → IsUnchecked old new rules unread
+        → IsNotJudged app old new rules result }
+    ensures past { (old new rules : List ℕ) → OnUnchecked unread (InputsPass old new rules)
+        → OnNotJudged result (InputsPass old new rules) }
 {
     match unread {
         Unchecked::Old(fault) => NotJudged::Old(fault),
@@ -122,7 +124,8 @@ fn marks_for(
     rules: &Rules,
     old: &Library<OldIx>,
 ) -> Result<Marks, NoMemory>
-    ensures marks { IfOk result (λ marks. marks ≡ narrowed_marks (marks_of rules.now old.now) (used_by (plain_imports imports.now) old.now)) }
+    ensures marks { IfOk result (λ marks. marks
+        ≡ narrowed_marks (marks_of rules.now old.now) (used_by (plain_imports imports.now) old.now)) }
     ensures even { IfOk result (λ marks. AreMarksOf old.now marks) }
     ensures past { IfErr result (λ e. OnLimit e (MarksPass rules.now old.now)) }
 {
@@ -139,7 +142,8 @@ fn push_use(
     export: &Export,
     dropped: bool,
 ) -> Result<(), AllocError>
-    ensures { OnOk result (string_bytes text.new ≡ string_bytes text.old ++ (if dropped then [] else use_line (plain_export export.now))) }
+    ensures { OnOk result (string_bytes text.new
+        ≡ string_bytes text.old ++ (if dropped then [] else use_line (plain_export export.now))) }
 {
     if dropped {
         return Ok(());
@@ -157,7 +161,8 @@ fn push_uses(
     dropped: &[bool],
 ) -> Result<(), AllocError>
     requires { length dropped.now ≡ length exports.now }
-    ensures { OnOk result (string_bytes text.new ≡ string_bytes text.old ++ use_lines (plain_exports exports.now) dropped.now) }
+    ensures { OnOk result (string_bytes text.new
+        ≡ string_bytes text.old ++ use_lines (plain_exports exports.now) dropped.now) }
 {
     for place in 0..exports.len() {
         push_use(alloc, text, &exports[place], dropped[place])?;

@@ -83,7 +83,8 @@ fn read_new(alloc: Global, bytes: &[u8]) -> Result<Library<'_, NewIx>, Unchecked
     requires { length bytes.now ≤ input_limit }
     ensures readable { OnOk result (library_fault bytes.now ≡ None) }
     ensures library { IfOk result (λ library. library ≡ library_of bytes.now) }
-    ensures unread { IfErr result (λ u. (old rules : List ℕ) → library_fault old ≡ None → IsUnchecked old bytes.now rules u) }
+    ensures unread { IfErr result (λ u. (old rules : List ℕ) → library_fault old ≡ None
+        → IsUnchecked old bytes.now rules u) }
     ensures past { IfErr result (λ u. OnUnchecked u (LibraryPasses bytes.now)) }
 {
     match read_library(alloc, bytes) {
@@ -165,7 +166,8 @@ pub fn read_pair<'a>(alloc: Global, old: &'a [u8], new: &'a [u8]) -> Result<Pair
 fn read_rule_file(alloc: Global, bytes: &[u8]) -> Result<Rules, Unchecked>
     ensures readable { OnOk result (rule_fault bytes.now ≡ None) }
     ensures rules { IfOk result (λ rules. rules ≡ rules_of bytes.now) }
-    ensures unread { IfErr result (λ u. (old new : List ℕ) → library_fault old ≡ None → library_fault new ≡ None → IsUnchecked old new bytes.now u) }
+    ensures unread { IfErr result (λ u. (old new : List ℕ) → library_fault old ≡ None → library_fault new ≡ None
+        → IsUnchecked old new bytes.now u) }
     ensures past { IfErr result (λ u. OnUnchecked u (PassesClasses bytes.now)) }
 {
     match read_rules(alloc, bytes) {

@@ -63,9 +63,11 @@ pub fn a_file_may_replace_itself()
 /// The certificate of two readable libraries and a readable rule file has only one text. So has the report, with listeners whose
 /// texts the rows determine.
 pub fn a_check_has_one_text()
-    ensures certificate { (old new rules text other : List ℕ) → length old ≤ input_limit → length new ≤ input_limit → AreReadable old new rules
+    ensures certificate { (old new rules text other : List ℕ) → length old ≤ input_limit → length new ≤ input_limit
+        → AreReadable old new rules
         → IsCertificateText old new rules text → IsCertificateText old new rules other → text ≡ other }
-    ensures report { (voices : List Voice) (old new rules text other : List ℕ) → All TellsItsText voices → length old ≤ input_limit → length new ≤ input_limit → AreReadable old new rules
+    ensures report { (voices : List Voice) (old new rules text other : List ℕ) → All TellsItsText voices
+        → length old ≤ input_limit → length new ≤ input_limit → AreReadable old new rules
         → IsReportText voices old new rules text → IsReportText voices old new rules other → text ≡ other }
 {
     two_libraries_have_one_right_answer();
@@ -74,13 +76,15 @@ pub fn a_check_has_one_text()
 
 /// The rows determine the texts of the wanted listeners in every style except `Own`.
 pub fn the_rows_decide_the_texts_of_a_style()
-    ensures { (wanted : AnyWanted) (voices : List Voice) → wanted ≢ Own → All TellsItsText (wanted_voices wanted voices) }
+    ensures { (wanted : AnyWanted) (voices : List Voice) → wanted ≢ Own
+        → All TellsItsText (wanted_voices wanted voices) }
 {}
 
 /// `verify` gives one answer on a certificate for the same inputs: it never both accepts and refuses it, and refuses it for one
 /// condition.
 pub fn a_verification_has_one_answer()
-    ensures { (old new rules certificate : List ℕ) (one other : Verified) → IsVerified old new rules certificate one → IsVerified old new rules certificate other → one ≡ other }
+    ensures { (old new rules certificate : List ℕ) (one other : Verified) → IsVerified old new rules certificate one
+        → IsVerified old new rules certificate other → one ≡ other }
 {
     a_text_is_of_one_certificate();
     one_place_fails_first();
@@ -89,10 +93,14 @@ pub fn a_verification_has_one_answer()
 /// What `check` prints on yes is a certificate without a fault that is accepted for the same inputs. `verify` can give no other
 /// answer on it, unless memory runs out.
 pub fn what_check_prints_is_accepted()
-    ensures readable { (old new rules text : List ℕ) → IsCertificateText old new rules text → certificate_fault text ≡ None }
-    ensures accepted { (old new rules text : List ℕ) → IsCertificateText old new rules text → IsAcceptedText old new rules text }
-    ensures alone { (old new rules text : List ℕ) (verified : Verified) → IsCertificateText old new rules text → IsVerified old new rules text verified → verified ≡ Accepted }
-    ensures memory { (old new rules text : List ℕ) (unverified : Unverified) → AreReadable old new rules → IsCertificateText old new rules text
+    ensures readable { (old new rules text : List ℕ) → IsCertificateText old new rules text
+        → certificate_fault text ≡ None }
+    ensures accepted { (old new rules text : List ℕ) → IsCertificateText old new rules text
+        → IsAcceptedText old new rules text }
+    ensures alone { (old new rules text : List ℕ) (verified : Verified) → IsCertificateText old new rules text
+        → IsVerified old new rules text verified → verified ≡ Accepted }
+    ensures memory { (old new rules text : List ℕ) (unverified : Unverified) → AreReadable old new rules
+        → IsCertificateText old new rules text
         → IsUnverified old new rules text unverified → IsOutOfMemory unverified }
 {
     what_is_spelled_has_no_fault();
@@ -102,7 +110,8 @@ pub fn what_check_prints_is_accepted()
 /// A certificate text that is accepted for readable libraries proves that the new one may replace the old one in all that the rule
 /// file does not suppress.
 pub fn an_accepted_certificate_is_a_proof()
-    ensures { (old new rules certificate : List ℕ) → length old ≤ input_limit → length new ≤ input_limit → library_fault old ≡ None → library_fault new ≡ None
+    ensures { (old new rules certificate : List ℕ) → length old ≤ input_limit → length new ≤ input_limit
+        → library_fault old ≡ None → library_fault new ≡ None
         → IsAcceptedText old new rules certificate → Compatible old new rules }
 {
     cert_check::laws::an_accepted_certificate_is_a_proof();
@@ -114,7 +123,8 @@ pub fn an_accepted_certificate_is_a_proof()
 /// Such a text, whether `check` printed it or `verify` accepted it, shows a relation that proves the yes: it is closed under the
 /// rules of types, and holds the types of all compared exports.
 pub fn an_accepted_certificate_tells_such_a_relation()
-    ensures { (old new rules certificate : List ℕ) → length old ≤ input_limit → length new ≤ input_limit → library_fault old ≡ None → library_fault new ≡ None
+    ensures { (old new rules certificate : List ℕ) → length old ≤ input_limit → length new ≤ input_limit
+        → library_fault old ≡ None → library_fault new ≡ None
         → IsAcceptedText old new rules certificate → IsRelationText old new rules certificate }
 {
     the_relation_of_an_accepted_certificate_is_closed();
@@ -124,7 +134,8 @@ pub fn an_accepted_certificate_tells_such_a_relation()
 
 /// If a rule file has no `accessed_through`, an accepted certificate of version 1 is also accepted after it is migrated.
 pub fn a_certificate_may_be_migrated_without_accessed_through()
-    ensures { (old new rules : List ℕ) (certificate : PlainCert1) → HasNoWays (rules_of rules) → IsAccepted1 (sides_of old new rules) certificate
+    ensures { (old new rules : List ℕ) (certificate : PlainCert1) → HasNoWays (rules_of rules)
+        → IsAccepted1 (sides_of old new rules) certificate
         → IsAccepted (migrated_case (sides_of old new rules) certificate) }
 {
     a_migrated_certificate_is_accepted();
@@ -133,7 +144,8 @@ pub fn a_certificate_may_be_migrated_without_accessed_through()
 
 /// `migrate` does not refuse the text of such a certificate.
 pub fn what_was_accepted_is_migrated()
-    ensures { (old new rules certificate : List ℕ) (cert : PlainCert1) (refusal : Refused) → HasNoWays (rules_of rules) → IsSpelled1 certificate cert
+    ensures { (old new rules certificate : List ℕ) (cert : PlainCert1) (refusal : Refused)
+        → HasNoWays (rules_of rules) → IsSpelled1 certificate cert
         → IsAccepted1 (sides_of old new rules) cert → IsRefusedMigration old new rules certificate refusal → ⊥ }
 {
     a_certificate_may_be_migrated_without_accessed_through();
@@ -142,8 +154,10 @@ pub fn what_was_accepted_is_migrated()
 
 /// What `migrate` prints is a certificate without a fault that is accepted for the same inputs.
 pub fn what_is_migrated_is_accepted()
-    ensures readable { (old new rules certificate text : List ℕ) → IsMigratedText old new rules certificate text → certificate_fault text ≡ None }
-    ensures accepted { (old new rules certificate text : List ℕ) → IsMigratedText old new rules certificate text → IsAcceptedText old new rules text }
+    ensures readable { (old new rules certificate text : List ℕ) → IsMigratedText old new rules certificate text
+        → certificate_fault text ≡ None }
+    ensures accepted { (old new rules certificate text : List ℕ) → IsMigratedText old new rules certificate text
+        → IsAcceptedText old new rules text }
 {
     what_is_spelled_has_no_fault();
 }
@@ -151,10 +165,16 @@ pub fn what_is_migrated_is_accepted()
 /// `migrate` gives one answer on a certificate of version 1 for the same inputs: it prints one text, or refuses for one condition,
 /// never both.
 pub fn a_migration_has_one_answer()
-    ensures answer { (old new rules certificate : List ℕ) (one other : Migrated) → IsMigrated old new rules certificate one → IsMigrated old new rules certificate other → SameMigrated one other }
-    ensures text { (old new rules certificate text other : List ℕ) → IsMigratedText old new rules certificate text → IsMigratedText old new rules certificate other → text ≡ other }
-    ensures refusal { (old new rules certificate : List ℕ) (refusal another : Refused) → IsRefusedMigration old new rules certificate refusal → IsRefusedMigration old new rules certificate another → refusal ≡ another }
-    ensures apart { (old new rules certificate text : List ℕ) (refusal : Refused) → IsMigratedText old new rules certificate text → IsRefusedMigration old new rules certificate refusal → ⊥ }
+    ensures answer { (old new rules certificate : List ℕ) (one other : Migrated)
+        → IsMigrated old new rules certificate one → IsMigrated old new rules certificate other
+        → SameMigrated one other }
+    ensures text { (old new rules certificate text other : List ℕ) → IsMigratedText old new rules certificate text
+        → IsMigratedText old new rules certificate other → text ≡ other }
+    ensures refusal { (old new rules certificate : List ℕ) (refusal another : Refused)
+        → IsRefusedMigration old new rules certificate refusal → IsRefusedMigration old new rules certificate another
+        → refusal ≡ another }
+    ensures apart { (old new rules certificate text : List ℕ) (refusal : Refused)
+        → IsMigratedText old new rules certificate text → IsRefusedMigration old new rules certificate refusal → ⊥ }
 {
     a_text_is_of_one_certificate_of_version_1();
     one_place_fails_first();
@@ -163,8 +183,10 @@ pub fn a_migration_has_one_answer()
 /// `compose` gives one answer on two certificates for the same three libraries: it prints one text, or refuses the first or the
 /// second certificate for one condition, or names one loss between them.
 pub fn a_composition_has_one_answer()
-    ensures answer { (p : PlainFiles) (one other : Composed) → IsComposition p one → IsComposition p other → SameComposed one other }
-    ensures text { (p : PlainFiles) (text other : List ℕ) → IsComposedText p text → IsComposedText p other → text ≡ other }
+    ensures answer { (p : PlainFiles) (one other : Composed) → IsComposition p one → IsComposition p other
+        → SameComposed one other }
+    ensures text { (p : PlainFiles) (text other : List ℕ) → IsComposedText p text → IsComposedText p other
+        → text ≡ other }
 {
     a_text_is_of_one_certificate();
     one_place_fails_first();
@@ -176,7 +198,8 @@ pub fn a_composition_has_one_answer()
 /// file, and is no longer than an input may be. So `verify` accepts it.
 pub fn what_is_composed_is_accepted()
     ensures readable { (p : PlainFiles) (text : List ℕ) → IsComposedText p text → certificate_fault text ≡ None }
-    ensures accepted { (p : PlainFiles) (text : List ℕ) → IsComposedText p text → IsAcceptedText p.first p.last [] text }
+    ensures accepted { (p : PlainFiles) (text : List ℕ) → IsComposedText p text
+        → IsAcceptedText p.first p.last [] text }
     ensures short { (p : PlainFiles) (text : List ℕ) → IsComposedText p text → length text ≤ input_limit }
 {
     what_is_spelled_has_no_fault();
@@ -186,13 +209,17 @@ pub fn what_is_composed_is_accepted()
 /// for one application exactly if the application finds the same. If it may, each leaf on which an open access lands stays at its
 /// offset, unless it lies under a place that is marked at its way, or under one that is declared only in the new library.
 pub fn compatible_is_that_accesses_agree()
-    ensures exact { (old new rules : List ℕ) → length old ≤ input_limit → length new ≤ input_limit → library_fault old ≡ None → library_fault new ≡ None
+    ensures exact { (old new rules : List ℕ) → length old ≤ input_limit → length new ≤ input_limit
+        → library_fault old ≡ None → library_fault new ≡ None
         → Compatible old new rules ↔ Agreed old new rules }
-    ensures app { (app old new rules : List ℕ) → length old ≤ input_limit → length new ≤ input_limit → library_fault old ≡ None → library_fault new ≡ None
+    ensures app { (app old new rules : List ℕ) → length old ≤ input_limit → length new ≤ input_limit
+        → library_fault old ≡ None → library_fault new ≡ None
         → IsCompatibleFor app old new rules ↔ AgreedFor app old new rules }
-    ensures leaves { (old new rules : List ℕ) → length old ≤ input_limit → length new ≤ input_limit → library_fault old ≡ None → library_fault new ≡ None
+    ensures leaves { (old new rules : List ℕ) → length old ≤ input_limit → length new ≤ input_limit
+        → library_fault old ≡ None → library_fault new ≡ None
         → Compatible old new rules → LeavesStay (task_of (sides_of old new rules)) }
-    ensures app_leaves { (app old new rules : List ℕ) → length old ≤ input_limit → length new ≤ input_limit → library_fault old ≡ None → library_fault new ≡ None
+    ensures app_leaves { (app old new rules : List ℕ) → length old ≤ input_limit → length new ≤ input_limit
+        → library_fault old ≡ None → library_fault new ≡ None
         → IsCompatibleFor app old new rules → KeepsLeavesFor app old new rules }
 {
     cert_check::laws::compatible_is_that_accesses_agree();
@@ -203,9 +230,12 @@ pub fn compatible_is_that_accesses_agree()
 /// `app` gives one answer, in one text, on an application, two libraries and a rule file, if the rows determine the texts of the
 /// listeners.
 pub fn an_application_has_one_answer()
-    ensures report { (voices : List Voice) (app old new rules text other : List ℕ) → All TellsItsText voices → length old ≤ input_limit → length new ≤ input_limit → library_fault old ≡ None → library_fault new ≡ None
+    ensures report { (voices : List Voice) (app old new rules text other : List ℕ) → All TellsItsText voices
+        → length old ≤ input_limit → length new ≤ input_limit → library_fault old ≡ None → library_fault new ≡ None
         → IsAppReportText voices app old new rules text → IsAppReportText voices app old new rules other → text ≡ other }
-    ensures answer { (voices : List Voice) (app old new rules : List ℕ) (one other : AppJudged) → All TellsItsText voices → length old ≤ input_limit → length new ≤ input_limit → library_fault old ≡ None → library_fault new ≡ None
+    ensures answer { (voices : List Voice) (app old new rules : List ℕ) (one other : AppJudged)
+        → All TellsItsText voices → length old ≤ input_limit → length new ≤ input_limit → library_fault old ≡ None
+        → library_fault new ≡ None
         → IsAppJudged voices app old new rules one → IsAppJudged voices app old new rules other → SameApp one other }
 {
     two_libraries_have_one_right_answer();
@@ -215,8 +245,11 @@ pub fn an_application_has_one_answer()
 /// Two applications whose imports require the same names, versions and files use the same exports of any library. So the same is
 /// compared for both, and they have the same answer and text.
 pub fn applications_that_import_the_same_are_judged_alike()
-    ensures sides { (app other old new rules : List ℕ) → ImportTheSame app other → sides_for app old new rules ≡ sides_for other old new rules }
-    ensures answer { (voices : List Voice) (app other old new rules : List ℕ) (said told : AppJudged) → All TellsItsText voices → length old ≤ input_limit → length new ≤ input_limit → library_fault old ≡ None → library_fault new ≡ None
+    ensures sides { (app other old new rules : List ℕ) → ImportTheSame app other
+        → sides_for app old new rules ≡ sides_for other old new rules }
+    ensures answer { (voices : List Voice) (app other old new rules : List ℕ) (said told : AppJudged)
+        → All TellsItsText voices → length old ≤ input_limit → length new ≤ input_limit → library_fault old ≡ None
+        → library_fault new ≡ None
         → ImportTheSame app other → IsAppJudged voices app old new rules said → IsAppJudged voices other old new rules told → SameApp said told }
 {
     two_libraries_have_one_right_answer();
@@ -226,7 +259,8 @@ pub fn applications_that_import_the_same_are_judged_alike()
 /// A new library that may replace an old one may do so for each application, since no more is compared: `app` says yes.
 pub fn what_may_replace_may_for_each_application()
     ensures compatible { (app old new rules : List ℕ) → Compatible old new rules → IsCompatibleFor app old new rules }
-    ensures yes { (voices : List Voice) (app old new rules : List ℕ) (said : AppJudged) → Compatible old new rules → IsAppJudged voices app old new rules said → IsYes said }
+    ensures yes { (voices : List Voice) (app old new rules : List ℕ) (said : AppJudged) → Compatible old new rules
+        → IsAppJudged voices app old new rules said → IsYes said }
 {
     roots_are_typed_pairs();
 }

@@ -30,7 +30,8 @@ pub enum Migrated {
 fn read_old_certificate(alloc: Global, bytes: &[u8]) -> Result<Cert1, Unverified>
     ensures readable { OnOk result (old_certificate_fault bytes.now ≡ None) }
     ensures spelled { IfOk result (λ cert. IsSpelled1 bytes.now cert) }
-    ensures unread { IfErr result (λ u. (old new rules : List ℕ) → AreReadable old new rules → IsUnmigrated old new rules bytes.now u) }
+    ensures unread { IfErr result (λ u. (old new rules : List ℕ) → AreReadable old new rules
+        → IsUnmigrated old new rules bytes.now u) }
 {
     match read_cert_1(alloc, bytes) {
         Ok(cert) => Ok(cert),

@@ -47,9 +47,12 @@ pub enum Unverified {
 
 /// Why `verify` and `migrate` give no verdict, if an input that they share with `check` is not readable.
 pub(crate) fn of_inputs(unread: Unchecked) -> Unverified
-    ensures unverified { (old new rules certificate : List ℕ) → IsUnchecked old new rules unread → IsUnverified old new rules certificate result }
-    ensures unmigrated { (old new rules certificate : List ℕ) → IsUnchecked old new rules unread → IsUnmigrated old new rules certificate result }
-    ensures past { (old new rules : List ℕ) → OnUnchecked unread (InputsPass old new rules) → OnUnverified result (InputsPass old new rules) }
+    ensures unverified { (old new rules certificate : List ℕ) → IsUnchecked old new rules unread
+        → IsUnverified old new rules certificate result }
+    ensures unmigrated { (old new rules certificate : List ℕ) → IsUnchecked old new rules unread
+        → IsUnmigrated old new rules certificate result }
+    ensures past { (old new rules : List ℕ) → OnUnchecked unread (InputsPass old new rules)
+        → OnUnverified result (InputsPass old new rules) }
 {
     match unread {
         Unchecked::Old(fault) => Unverified::Old(fault),
@@ -63,7 +66,8 @@ pub(crate) fn of_inputs(unread: Unchecked) -> Unverified
 fn read_certificate(alloc: Global, bytes: &[u8]) -> Result<Cert, Unverified>
     ensures readable { OnOk result (certificate_fault bytes.now ≡ None) }
     ensures spelled { IfOk result (λ cert. IsSpelled bytes.now cert) }
-    ensures unread { IfErr result (λ u. (old new rules : List ℕ) → AreReadable old new rules → IsUnverified old new rules bytes.now u) }
+    ensures unread { IfErr result (λ u. (old new rules : List ℕ) → AreReadable old new rules
+        → IsUnverified old new rules bytes.now u) }
     ensures named { IfErr result (λ u. OnUnverified u (λ l. ⊥)) }
 {
     match read_cert(alloc, bytes) {

@@ -22,7 +22,7 @@ abbrev pub member_letters : PlainPart → ℕ
 member_letters (Member name bit width to) = length name
 member_letters others = 0
 
--- the names of these members have more letters than a layout of a file with so many bytes may print
+-- the names of these members have more letters than a layout of a file of this size in bytes may print
 abbrev pub LettersPass : List PlainPart → ℕ → Limit → Type 0
 LettersPass parts bytes l = (l ≡ LayoutNames) × (allowed LayoutNames bytes < sum_by member_letters parts)
 

@@ -10,7 +10,8 @@ use type_print::laws::{clean_rows_cover_each_bit_once, rows_are_determined, rows
 
 /// A library and a tag have exactly one answer: one text, or that no structure has the tag.
 pub fn a_layout_has_one_answer()
-    ensures text { (library tag text other : List ℕ) → length library ≤ input_limit → library_fault library ≡ None → IsLayoutText library tag text → IsLayoutText library tag other → text ≡ other }
+    ensures text { (library tag text other : List ℕ) → length library ≤ input_limit → library_fault library ≡ None
+        → IsLayoutText library tag text → IsLayoutText library tag other → text ≡ other }
     ensures tag { (library tag text : List ℕ) → IsLayoutText library tag text → HasNoTag library tag → ⊥ }
 {
     rows_are_determined();

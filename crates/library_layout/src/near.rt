@@ -58,7 +58,8 @@ fn near_of<'a, Ix: Index>(
     tags: &[&[u8]],
 ) -> Result<Option<Near<'a>>, NoMemory>
     ensures tagged { IfOk result (λ found. IfSome found (λ near. has_layout view.now near.tag.now ≡ true)) }
-    ensures new { IfOk result (λ found. IfSome found (λ near. list_any (λ t. bytes_eq t.now near.tag.now) tags.now ≡ false)) }
+    ensures new { IfOk result (λ found. IfSome found (λ near. list_any (λ t. bytes_eq t.now near.tag.now) tags.now
+        ≡ false)) }
 {
     if !is_tagged(view) || is_among(tags, view.tag) {
         return Ok(None);

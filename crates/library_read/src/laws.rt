@@ -24,7 +24,8 @@ use type_reach::laws::laws_of_types;
 /// In a file without a fault the entry of each export is that of a node, which is void if the export has none; the exports are
 /// in order of their symbols; and the call of each function has a place for each of its parameters.
 pub fn readable_files_are_libraries()
-    ensures { (f : List ℕ) → length f ≤ input_limit → library_fault f ≡ None → IsLibrary (typed_exports_of f) (graph_of f) }
+    ensures { (f : List ℕ) → length f ≤ input_limit → library_fault f ≡ None
+        → IsLibrary (typed_exports_of f) (graph_of f) }
 {
     a_section_is_in_order();
     symbols_fill_their_table();
@@ -41,7 +42,8 @@ pub fn nodes_stand_for_what_exports_reach()
     ensures graph { (f : List ℕ) → length f ≤ input_limit → library_fault f ≡ None → IsGraph (graph_of f) }
     ensures many { (f : List ℕ) → length (graph_of f) ≡ length (uncalled_graph_of f) }
     ensures same { (f : List ℕ) (i : ℕ) → IsSameButCall (node_at (uncalled_graph_of f) i) (node_at (graph_of f) i) }
-    ensures calls { (f : List ℕ) → length f ≤ input_limit → library_fault f ≡ None → (i : ℕ) → (view_at (graph_of f) i).call ≡ call_of (graph_of f) i }
+    ensures calls { (f : List ℕ) → length f ≤ input_limit → library_fault f ≡ None → (i : ℕ)
+        → (view_at (graph_of f) i).call ≡ call_of (graph_of f) i }
 {
     a_section_is_in_order();
     shapes_change_calls_alone();
@@ -53,7 +55,8 @@ pub fn nodes_stand_for_what_exports_reach()
 /// In a file without a fault each export has the first entry that stands for its address, and none where none does or where its
 /// value is no address of its own.
 pub fn exports_have_the_first_entry_at_their_address()
-    ensures { (f : List ℕ) → length f ≤ input_limit → library_fault f ≡ None → All (λ e. HasItsEntry (debug_of f) e (entry_for (debug_of f) e)) (typed_exports_of f) }
+    ensures { (f : List ℕ) → length f ≤ input_limit → library_fault f ≡ None
+        → All (λ e. HasItsEntry (debug_of f) e (entry_for (debug_of f) e)) (typed_exports_of f) }
 {
     a_section_is_in_order();
     the_first_entry_stands_for_an_address();

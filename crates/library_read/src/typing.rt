@@ -101,7 +101,8 @@ fn typed_exports<'a>(
     bytes: usize,
 ) -> Result<List<Export<'a>>, NoMemory>
     requires { bytes < 2 ^ 38 }
-    ensures typed { IfOk result (λ typed. plain_exports typed ≡ map (exports_spec.typed dwarf.now) (plain_exports exports.entry.items)) }
+    ensures typed { IfOk result (λ typed. plain_exports typed
+        ≡ map (exports_spec.typed dwarf.now) (plain_exports exports.entry.items)) }
     ensures past { IfErr result (λ e. OnLimit e (PassesDeclared dwarf.now (plain_exports exports.entry.items) bytes)) }
 {
     let mut letters = Budget::of(Limit::DeclaredNames, bytes);
@@ -120,7 +121,8 @@ fn roots_among(
     dwarf: &Dwarf,
     exports: &[Export],
 ) -> Result<Vec<EntryNumber>, NoMemory>
-    ensures roots { IfOk result (λ roots. roots.items ≡ exports_spec.roots_among dwarf.now (plain_exports exports.now)) }
+    ensures roots { IfOk result (λ roots. roots.items
+        ≡ exports_spec.roots_among dwarf.now (plain_exports exports.now)) }
     ensures inside { IfOk result (λ roots. All (λ root. root < length dwarf.now.tree.entries) roots.items) }
     ensures named { IfErr result (λ e. e ≡ Allocation) }
 {
@@ -153,8 +155,10 @@ fn types_in<'a, Ix: Index>(
 ) -> Result<Typed<'a, Ix>, Refusal>
     requires { bytes < 2 ^ 38 }
     ensures judged { Judges result (types_fault dwarf.now (exports_spec.roots_among dwarf.now (plain_exports exports.entry.items))) }
-    ensures exports { IfOk result (λ typed. plain_exports typed.exports ≡ map (exports_spec.typed dwarf.now) (plain_exports exports.entry.items)) }
-    ensures graph { IfOk result (λ typed. typed.graph ≡ nodes_of dwarf.now (exports_spec.roots_among dwarf.now (plain_exports exports.entry.items))) }
+    ensures exports { IfOk result (λ typed. plain_exports typed.exports
+        ≡ map (exports_spec.typed dwarf.now) (plain_exports exports.entry.items)) }
+    ensures graph { IfOk result (λ typed. typed.graph
+        ≡ nodes_of dwarf.now (exports_spec.roots_among dwarf.now (plain_exports exports.entry.items))) }
     ensures past { IfErr result (λ e. OnPast e (TypedPass dwarf.now (plain_exports exports.entry.items) bytes)) }
 {
     let roots = roots_among(alloc, dwarf, exports.as_slice())?;
@@ -178,8 +182,10 @@ pub(crate) fn with_types<'a, Ix: Index>(
 ) -> Result<(Typed<'a, Ix>, Dwarf<'a>), Refusal>
     requires { bytes < 2 ^ 38 }
     ensures judged { Judges result (debug_fault file.now (plain_exports exports.entry.items)) }
-    ensures exports { IfOk result (λ read. plain_exports read.0.exports ≡ map (exports_spec.typed (debug_of file.now)) (plain_exports exports.entry.items)) }
-    ensures graph { IfOk result (λ read. read.0.graph ≡ nodes_of (debug_of file.now) (exports_spec.roots_among (debug_of file.now) (plain_exports exports.entry.items))) }
+    ensures exports { IfOk result (λ read. plain_exports read.0.exports
+        ≡ map (exports_spec.typed (debug_of file.now)) (plain_exports exports.entry.items)) }
+    ensures graph { IfOk result (λ read. read.0.graph
+        ≡ nodes_of (debug_of file.now) (exports_spec.roots_among (debug_of file.now) (plain_exports exports.entry.items))) }
     ensures debug { IfOk result (λ read. read.1 ≡ debug_of file.now) }
     ensures past { IfErr result (λ e. OnPast e (DebugPass file.now (plain_exports exports.entry.items) bytes)) }
 {

@@ -21,7 +21,8 @@ fn lacking_needs<'a>(
     old: &FileNeeds<'a>,
     new: &FileNeeds<'a>,
 ) -> Result<FileNeeds<'a>, NoMemory>
-    ensures ok { IfOk result (λ needs. plain_needs needs ≡ lacking_between (plain_needs old.now) (plain_needs new.now)) }
+    ensures ok { IfOk result (λ needs. plain_needs needs
+        ≡ lacking_between (plain_needs old.now) (plain_needs new.now)) }
     ensures named { IfErr result (λ e. e ≡ Allocation) }
 {
     Ok(FileNeeds {
@@ -45,7 +46,8 @@ fn nothing<'a>(alloc: Global) -> FileNeeds<'a>
 // What a file needs, or None if it has a fault.
 fn readable<'a>(alloc: Global, bytes: &'a [u8]) -> Result<Option<FileNeeds<'a>>, NoMemory>
     requires { length bytes.now ≤ input_limit }
-    ensures read { IfOk result (λ needs. IfSome needs (λ n. (file_fault bytes.now ≡ None) × (plain_needs n ≡ needs_of bytes.now))) }
+    ensures read { IfOk result (λ needs. IfSome needs (λ n. (file_fault bytes.now ≡ None)
+        × (plain_needs n ≡ needs_of bytes.now))) }
     ensures faulty { IfOk result (λ needs. IfNone needs (is_none (file_fault bytes.now) ≡ false)) }
     ensures past { IfErr result (λ e. OnLimit e (FilePasses bytes.now)) }
 {

@@ -17,8 +17,10 @@ type Seen<'a> = BTreeSet<(&'a [u8], &'a [u8])>;
 
 // Puts what is needed to what was seen. The answer is whether it is new.
 fn see<'a>(seen: &mut Seen<'a>, needed: &Needed<'a>) -> Result<bool, NoMemory>
-    ensures new { IfOk result (λ new. (those : List PlainNeeded) → AreSeen those seen.old → new ≡ not (is_among those (plain_needed needed.now))) }
-    ensures seen { OnOk result ((those : List PlainNeeded) → AreSeen those seen.old → AreSeen (those ++ plain_needed needed.now ∷ []) seen.new) }
+    ensures new { IfOk result (λ new. (those : List PlainNeeded) → AreSeen those seen.old
+        → new ≡ not (is_among those (plain_needed needed.now))) }
+    ensures seen { OnOk result ((those : List PlainNeeded) → AreSeen those seen.old
+        → AreSeen (those ++ plain_needed needed.now ∷ []) seen.new) }
     ensures named { IfErr result (λ e. e ≡ Allocation) }
 {
     let new = seen.insert((needed.name, needed.of))?;

@@ -76,10 +76,12 @@ fn keep<'a>(
     name: Option<&'a [u8]>,
     budget: &mut Budget,
 ) -> Result<(), NoMemory>
-    ensures kept { OnOk result (plain_names names.new.items ≡ plain_names names.old.items ++ option_to_list (option_copied name.entry)) }
+    ensures kept { OnOk result (plain_names names.new.items
+        ≡ plain_names names.old.items ++ option_to_list (option_copied name.entry)) }
     ensures taken { OnOk result (budget.new ≡ with_taken budget.old (name_cost (option_copied name.entry))) }
     ensures within { OnOk result (budget.old.taken + name_cost (option_copied name.entry) ≤ budget.old.most) }
-    ensures past { IfErr result (λ e. OnLimit e (λ l. (l ≡ budget.old.limit) × (budget.old.most < budget.old.taken + name_cost (option_copied name.entry)))) }
+    ensures past { IfErr result (λ e. OnLimit e (λ l. (l ≡ budget.old.limit)
+        × (budget.old.most < budget.old.taken + name_cost (option_copied name.entry)))) }
 {
     budget.take(cost_of(name))?;
     if let Some(name) = name {

@@ -59,7 +59,8 @@ fn symbols_among<'a>(
     symbols: &[Symbol],
     imports: &[Import<'a>],
 ) -> Result<Vec<Needed<'a>>, NoMemory>
-    ensures read { IfOk result (λ needed. plain_all needed.items ≡ strong_symbols (plain_symbols symbols.now) (plain_imports imports.now)) }
+    ensures read { IfOk result (λ needed. plain_all needed.items
+        ≡ strong_symbols (plain_symbols symbols.now) (plain_imports imports.now)) }
     ensures named { IfErr result (λ e. e ≡ Allocation) }
 {
     let mut needed = Vec::new(alloc);
@@ -120,7 +121,8 @@ fn needs_by<'a>(
     symbols: &[Symbol],
     imports: &[Import<'a>],
 ) -> Result<FileNeeds<'a>, NoMemory>
-    ensures read { IfOk result (λ needs. plain_needs needs ≡ needs_with (plain_names names.now) (plain_versions versions.now) (plain_symbols symbols.now) (plain_imports imports.now)) }
+    ensures read { IfOk result (λ needs. plain_needs needs
+        ≡ needs_with (plain_names names.now) (plain_versions versions.now) (plain_symbols symbols.now) (plain_imports imports.now)) }
     ensures named { IfErr result (λ e. e ≡ Allocation) }
 {
     Ok(FileNeeds {

@@ -63,7 +63,8 @@ fn viewed<'x, 'o, 'n, 'og, 'oc, 'ng, 'nc, V: View, L: Ledger>(
 ) -> Result<V::Shown, NoMemory>
     requires bound { IsBinding pair.now }
     requires marks { AreMarksOf pair.now.old.now pair.now.marks.now }
-    requires scope { scope_of graphs.now ≡ explored_spec.scope_of (sides_of pair.now) graphs.now.old_classes.now graphs.now.new_classes.now }
+    requires scope { scope_of graphs.now
+        ≡ explored_spec.scope_of (sides_of pair.now) graphs.now.old_classes.now graphs.now.new_classes.now }
     requires coarse { IsCoarse (scope_of graphs.now) }
     ensures shown { IfOk result (V.shows view.now (sides_of pair.now)) }
     ensures bound { steps.new ≤ steps.old + most_steps (sides_of pair.now) }

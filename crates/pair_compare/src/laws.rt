@@ -26,7 +26,8 @@ use pair_rules::laws::{a_type_may_replace_itself, parts_match_in_order, steps_le
 /// Where no two exports of a library have one name and one version, each export binds to itself, and the library may replace
 /// itself, whatever is marked.
 pub fn a_library_may_replace_itself()
-    ensures binds { (exports : List PlainExport) (k : ℕ) (e : PlainExport) → AreDistinct exports → slice_get exports k ≡ Some e
+    ensures binds { (exports : List PlainExport) (k : ℕ) (e : PlainExport) → AreDistinct exports
+        → slice_get exports k ≡ Some e
         → bind_to exports e ≡ Some k }
     ensures replaces { (l : PlainLibrary) (m : Marks) → AreDistinct l.exports → IsCompatible (sides l l m) }
 {
@@ -40,7 +41,8 @@ pub fn a_library_may_replace_itself()
 /// no fault, also once they have types.
 pub fn exports_without_a_fault_are_distinct()
     ensures exact { (exports : List PlainExport) → (first (duplicate_faults [] exports) ≡ None) ↔ AreDistinct exports }
-    ensures read { (symbols : List PlainSymbol) (versions : List (Option PlainVersion)) (exports : List PlainExport) → export_fault symbols versions ≡ None
+    ensures read { (symbols : List PlainSymbol) (versions : List (Option PlainVersion)) (exports : List PlainExport)
+        → export_fault symbols versions ≡ None
         → map name_and_version exports ≡ map name_and_version (exports_with symbols versions) → AreDistinct exports }
 {}
 
@@ -61,7 +63,8 @@ pub fn typed_pairs_can_be_explored()
 
 /// Two libraries and marks have at most one right result: what was read decides it.
 pub fn two_libraries_have_one_right_answer()
-    ensures { (s : Sides) (one other : Comparison) → IsGraph s.old.graph → IsGraph s.new.graph → IsRight s one → IsRight s other → one ≡ other }
+    ensures { (s : Sides) (one other : Comparison) → IsGraph s.old.graph → IsGraph s.new.graph → IsRight s one
+        → IsRight s other → one ≡ other }
 {
     a_certificate_is_one();
     a_right_report_is_one();

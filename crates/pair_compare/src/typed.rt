@@ -34,7 +34,8 @@ fn place_at(ground: &BoundPair, k: usize) -> Option<usize>
 
 // The new export that the old one at a position binds to.
 fn partner_at<'x, 'n>(ground: &BoundPair<'x, '_, 'n>, k: usize) -> Option<&'x Export<'n>>
-    ensures { MatchOption result (partner ground.now k ≡ None) (λ export. partner ground.now k ≡ Some (plain_export export.now)) }
+    ensures { MatchOption result (partner ground.now k ≡ None) (λ export. partner ground.now k
+        ≡ Some (plain_export export.now)) }
 {
     match place_at(ground, k) {
         None => None,

@@ -120,8 +120,10 @@ fn expand<L: Ledger>(
     requires counted { IsCounted (scope_of ground.now) explored.old.reached.visits explored.old.reached.pairs }
     requires parts { IsOf PairParts explored.old.work.parts }
     requires broken { IsOf Breaks explored.old.work.broken }
-    ensures visits { OnOk result (explored.new.reached.visits ≡ expanded (scope_of ground.now) explored.old.reached.visits number visit.now) }
-    ensures breaks { OnOk result (explored.new.breaks ≡ explored.old.breaks ++ visit_breaks (scope_of ground.now).task number visit.now) }
+    ensures visits { OnOk result (explored.new.reached.visits
+        ≡ expanded (scope_of ground.now) explored.old.reached.visits number visit.now) }
+    ensures breaks { OnOk result (explored.new.breaks
+        ≡ explored.old.breaks ++ visit_breaks (scope_of ground.now).task number visit.now) }
     ensures cost { steps.new ≡ steps.old + (if is_compared (scope_of ground.now).task visit.now then 1 else 0) }
     ensures counted { OnOk result (IsCounted (scope_of ground.now) explored.new.reached.visits explored.new.reached.pairs) }
     ensures parts { OnOk result (Takes explored.old.work.parts explored.new.work.parts (weight_at (scope_of ground.now).task (seen visit.now))) }

@@ -75,7 +75,8 @@ fn root_visit(ground: &GraphPair, k: usize) -> Visit
 pub(crate) fn add_roots(ground: &GraphPair, reached: &mut Reached) -> Result<(), NoMemory>
     requires nodes { HasNodes (scope_of ground.now) }
     requires counted { IsCounted (scope_of ground.now) reached.old.visits reached.old.pairs }
-    ensures visits { OnOk result (reached.new.visits ≡ entered (adding.root_visit (scope_of ground.now)) (length ground.now.roots.now) reached.old.visits) }
+    ensures visits { OnOk result (reached.new.visits
+        ≡ entered (adding.root_visit (scope_of ground.now)) (length ground.now.roots.now) reached.old.visits) }
     ensures counted { OnOk result (IsCounted (scope_of ground.now) reached.new.visits reached.new.pairs) }
     ensures past { IfErr result (λ e. OnLimit e (VisitsPass (scope_of ground.now) (entered (adding.root_visit (scope_of ground.now)) (length ground.now.roots.now) reached.old.visits))) }
 {
@@ -99,7 +100,8 @@ fn next_visit(
     requires unmarked { steps.is_marked (scope_of ground.now).task visit.now.old visit.now.way ≡ false }
     requires old { visit.now.old < length ground.now.old.now }
     requires new { visit.now.new < length ground.now.new.now }
-    requires matches { matches.now ≡ comparisons.matches (view_at ground.now.old.now visit.now.old) (view_at ground.now.new.now visit.now.new) }
+    requires matches { matches.now
+        ≡ comparisons.matches (view_at ground.now.old.now visit.now.old) (view_at ground.now.new.now visit.now.new) }
     requires inside { i < length (view_at ground.now.old.now visit.now.old).parts }
     ensures visit { result ≡ adding.next_visit (scope_of ground.now) number (seen visit.now) i }
     ensures inside { IfSome result (λ v. (v.old < length ground.now.old.now) × (v.new < length ground.now.new.now)) }
@@ -141,9 +143,11 @@ pub(crate) fn add_partners(
     requires unmarked { steps.is_marked (scope_of ground.now).task visit.now.old visit.now.way ≡ false }
     requires old { visit.now.old < length ground.now.old.now }
     requires new { visit.now.new < length ground.now.new.now }
-    requires matches { matches.now ≡ comparisons.matches (view_at ground.now.old.now visit.now.old) (view_at ground.now.new.now visit.now.new) }
+    requires matches { matches.now
+        ≡ comparisons.matches (view_at ground.now.old.now visit.now.old) (view_at ground.now.new.now visit.now.new) }
     requires counted { IsCounted (scope_of ground.now) reached.old.visits reached.old.pairs }
-    ensures visits { OnOk result (reached.new.visits ≡ entered (adding.next_visit (scope_of ground.now) number (seen visit.now)) (length (view_at ground.now.old.now visit.now.old).parts) reached.old.visits) }
+    ensures visits { OnOk result (reached.new.visits
+        ≡ entered (adding.next_visit (scope_of ground.now) number (seen visit.now)) (length (view_at ground.now.old.now visit.now.old).parts) reached.old.visits) }
     ensures counted { OnOk result (IsCounted (scope_of ground.now) reached.new.visits reached.new.pairs) }
     ensures past { IfErr result (λ e. OnLimit e (VisitsPass (scope_of ground.now) (entered (adding.next_visit (scope_of ground.now) number (seen visit.now)) (length (view_at ground.now.old.now visit.now.old).parts) reached.old.visits))) }
 {

@@ -92,8 +92,10 @@ fn key_of(visit: &Visit) -> Result<(u32, u32, bool), NoMemory>
 
 // Puts the key of a visit's triple among the known ones, and returns whether it is new.
 fn put(known: &mut BTreeSet<(u32, u32, bool)>, visit: &Visit) -> Result<bool, NoMemory>
-    ensures is_new { IfOk result (λ is_new. (visits : List PlainVisit) → AreKnown known.old visits → is_new ≡ not (has visits (seen visit.now))) }
-    ensures known { OnOk result ((visits : List PlainVisit) → AreKnown known.old visits → AreKnown known.new (added visits visit.now)) }
+    ensures is_new { IfOk result (λ is_new. (visits : List PlainVisit) → AreKnown known.old visits
+        → is_new ≡ not (has visits (seen visit.now))) }
+    ensures known { OnOk result ((visits : List PlainVisit) → AreKnown known.old visits
+        → AreKnown known.new (added visits visit.now)) }
     ensures err { OnErr result ((visits : List PlainVisit) → AreKnown known.old visits → AreKnown known.new visits) }
     ensures past { IfErr result (λ e. OnLimit e (λ l. (l ≡ Pairs) × HasWideNumber visit.now)) }
 {

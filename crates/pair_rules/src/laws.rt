@@ -40,12 +40,14 @@ pub fn the_same_are_equal()
 /// The list of broken rules contains a rule at a position exactly where the rule is checked and broken there. A rule on parts is
 /// broken only at existing parts.
 pub fn breaks_are_where_their_rules_say()
-    ensures { (v w : PlainView) (b : Broken) → Contains (breaks v w) b ↔ (Contains (rules_asked v w) b.rule × IsBroken v w b) }
+    ensures { (v w : PlainView) (b : Broken) → Contains (breaks v w) b ↔ (Contains (rules_asked v w) b.rule
+        × IsBroken v w b) }
 {}
 
 /// The list of broken rules is ordered by rule, and by part where a rule is broken at several.
 pub fn breaks_stand_in_order()
-    ensures { (v w : PlainView) (m n : ℕ) (b c : Broken) → m < n → slice_get (breaks v w) m ≡ Some b → slice_get (breaks v w) n ≡ Some c → IsBrokenBefore b c }
+    ensures { (v w : PlainView) (m n : ℕ) (b c : Broken) → m < n → slice_get (breaks v w) m ≡ Some b
+        → slice_get (breaks v w) n ≡ Some c → IsBrokenBefore b c }
 {}
 
 /// A type breaks no rule against itself, whatever its view.
@@ -63,7 +65,8 @@ pub fn partners_name_nodes()
 /// If a type breaks no rule against a middle type with a definition, each of its parts with a partner in a third type has one in
 /// the middle type too, which has the same partner in the third.
 pub fn parts_meet_in_the_middle()
-    ensures { (v u w : PlainView) (i j : ℕ) → HasForm v → HasForm u → u.declared_only ≡ false → breaks v u ≡ [] → IsPartner v w i j
+    ensures { (v u w : PlainView) (i j : ℕ) → HasForm v → HasForm u → u.declared_only ≡ false → breaks v u ≡ []
+        → IsPartner v w i j
         → MeetInTheMiddle v u w i j }
 {}
 
@@ -71,7 +74,8 @@ pub fn parts_meet_in_the_middle()
 /// partner, and the two parts name the nodes of the other triple. In graphs these nodes exist.
 pub fn steps_lead_to_nodes()
     ensures exact { (t : Task) (x y : Triple) (i : ℕ) → (step t x i ≡ Some y) ↔ IsStep t x i y }
-    ensures inside { (t : Task) (x y : Triple) (i : ℕ) → IsGraph t.old → IsGraph t.new → step t x i ≡ Some y → IsInside t y }
+    ensures inside { (t : Task) (x y : Triple) (i : ℕ) → IsGraph t.old → IsGraph t.new → step t x i ≡ Some y
+        → IsInside t y }
 {}
 
 /// In graphs a path from roots that are nodes leads to nodes, and each of its positions is that of an existing part.
@@ -85,14 +89,16 @@ pub fn paths_lead_to_nodes()
 
 /// A closed relation that contains the roots contains everything to which a path leads.
 pub fn closed_relations_hold_what_is_reachable()
-    ensures { (t : Task) (r : Triple → Bool) (path : Path) (x : Triple) → IsClosed t r → HoldsRoots t r → PathLeadsTo t path x → r x ≡ true }
+    ensures { (t : Task) (r : Triple → Bool) (path : Path) (x : Triple) → IsClosed t r → HoldsRoots t r
+        → PathLeadsTo t path x → r x ≡ true }
 {}
 
 /// Rules, partners and steps depend only on the identity of the nodes that parts name: if nodes get other numbers, the
 /// same rules are broken, the same parts are partners, and steps lead to the nodes with the other numbers.
 pub fn rules_see_no_nodes()
     ensures breaks { (f g : ℕ → ℕ) (v w : PlainView) → breaks (view_seen f v) (view_seen g w) ≡ breaks v w }
-    ensures partners { (f g : ℕ → ℕ) (v w : PlainView) (i : ℕ) → partner_at (view_seen f v) (view_seen g w) i ≡ partner_at v w i }
+    ensures partners { (f g : ℕ → ℕ) (v w : PlainView) (i : ℕ)
+        → partner_at (view_seen f v) (view_seen g w) i ≡ partner_at v w i }
     ensures steps { (f g : ℕ → ℕ) (v w : PlainView) (way : Way) (i : ℕ) →
         next_of (view_seen f v) (view_seen g w) way i ≡ option_map (classed f g) (next_of v w way i) }
 {}
@@ -101,7 +107,8 @@ pub fn rules_see_no_nodes()
 pub fn parts_see_no_nodes()
     ensures parts { (f : ℕ → ℕ) (v : PlainView) (i : ℕ) → part_at (view_seen f v) i ≡ part_seen f (part_at v i) }
     ensures numbers { (f : ℕ → ℕ) (v : PlainView) (i : ℕ) → number_of (view_seen f v) i ≡ number_of v i }
-    ensures matches { (f g : ℕ → ℕ) (v w : PlainView) (i : ℕ) → match_of (view_seen f v) (view_seen g w) i ≡ match_of v w i }
+    ensures matches { (f g : ℕ → ℕ) (v w : PlainView) (i : ℕ)
+        → match_of (view_seen f v) (view_seen g w) i ≡ match_of v w i }
     ensures bits { (f : ℕ → ℕ) (v : PlainView) (i : ℕ) → bit_at (view_seen f v) i ≡ bit_at v i }
     ensures widths { (f : ℕ → ℕ) (v : PlainView) (i : ℕ) → width_at (view_seen f v) i ≡ width_at v i }
     ensures values { (f : ℕ → ℕ) (v : PlainView) (i : ℕ) → value_at (view_seen f v) i ≡ value_at v i }
@@ -115,7 +122,8 @@ pub fn triples_of_the_same_classes()
         → classed old new x ≡ classed old new y → is_marked t x.old x.way ≡ is_marked t y.old y.way }
     ensures breaks { (t : Task) (old new : ℕ → ℕ) (x y : Triple) → AreClasses t old new → IsInside t x → IsInside t y
         → classed old new x ≡ classed old new y → breaks_of t x ≡ breaks_of t y }
-    ensures steps { (t : Task) (old new : ℕ → ℕ) (x y z : Triple) (i : ℕ) → AreClasses t old new → IsInside t x → IsInside t y
+    ensures steps { (t : Task) (old new : ℕ → ℕ) (x y z : Triple) (i : ℕ) → AreClasses t old new → IsInside t x
+        → IsInside t y
         → classed old new x ≡ classed old new y → step t y i ≡ Some z → LeadsLike t old new x i z }
 {}
 

@@ -252,7 +252,8 @@ fn push_parts(
     matches: &[Option<usize>],
 ) -> Result<(), NoMemory>
     requires { matches.now ≡ map (matching_spec.match_of old.now new.now) (range_with_len 0 (length old.now.parts)) }
-    ensures appended { OnOk result (list.new ≡ list.old ++ map (broken_at rule) (filter (type_rules.breaks_part rule old.now new.now) (range_with_len 0 (length old.now.parts)))) }
+    ensures appended { OnOk result (list.new
+        ≡ list.old ++ map (broken_at rule) (filter (type_rules.breaks_part rule old.now new.now) (range_with_len 0 (length old.now.parts)))) }
     ensures named { IfErr result (λ e. e ≡ Allocation) }
 {
     'walk: for (part, found) in matches.iter().enumerate() {

@@ -36,7 +36,8 @@ fn nothing_found() -> Found
 
 /// A table for this many nodes by number, without results.
 pub fn room_for(alloc: Global, len: usize) -> Result<Vec<Found>, NoMemory>
-    ensures found { IfOk result (λ found. (i : ℕ) → slice_index_or found.items i spec.nothing_found ≡ spec.nothing_found) }
+    ensures found { IfOk result (λ found. (i : ℕ) → slice_index_or found.items i spec.nothing_found
+        ≡ spec.nothing_found) }
     ensures named { IfErr result (λ e. e ≡ Allocation) }
 {
     let mut found = Vec::new(alloc);

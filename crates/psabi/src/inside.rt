@@ -34,7 +34,8 @@ pub fn count_inside<Ix: Index>(view: &View<Ix>) -> u64
 pub fn inside_of<Ix: Index>(graph: &Graph<Ix>, ix: Ix, n: u64) -> Option<InnerObject<Ix>>
     requires inside { Ix.number_of ix < length graph.now }
     requires below { n < spec.count_inside (view_at graph.now (Ix.number_of ix)) }
-    ensures { option_map (plain_inner Ix.number_of) result ≡ inside_at graph.now (view_at graph.now (Ix.number_of ix)) n }
+    ensures { option_map (plain_inner Ix.number_of) result
+        ≡ inside_at graph.now (view_at graph.now (Ix.number_of ix)) n }
 {
     graph.known();
     let view = graph.view(ix);

@@ -27,7 +27,7 @@ pub(crate) fn changed(alloc: Global, what: &str, old: &str, new: &str) -> Result
     format!(in alloc; "{what} {old}, now {new}")
 }
 
-// The same for two numbers.
+// What changed, with its old and its new number.
 pub(crate) fn changed_number(
     alloc: Global,
     what: &str,
@@ -59,7 +59,8 @@ pub fn soname_detail(
     old: Option<&[u8]>,
     new: Option<&[u8]>,
 ) -> Result<String, AllocError>
-    ensures { IfOk result (λ text. string_bytes text ≡ spec.soname_detail (option_copied old.entry) (option_copied new.entry)) }
+    ensures { IfOk result (λ text. string_bytes text
+        ≡ spec.soname_detail (option_copied old.entry) (option_copied new.entry)) }
 {
     let old = soname_text(alloc, old)?;
     let new = soname_text(alloc, new)?;
@@ -73,7 +74,8 @@ pub fn export_detail(
     old: &Export,
     new: &Export,
 ) -> Result<String, AllocError>
-    ensures { IfOk result (λ text. string_bytes text ≡ spec.export_detail rule (plain_export old.now) (plain_export new.now)) }
+    ensures { IfOk result (λ text. string_bytes text
+        ≡ spec.export_detail rule (plain_export old.now) (plain_export new.now)) }
 {
     match rule {
         Rule::ExportPresence => String::from_str(alloc, "gone"),
@@ -101,7 +103,8 @@ fn tag_text(alloc: Global, tag: &[u8]) -> Result<String, AllocError>
 
 // The detail for two different tags.
 pub(crate) fn changed_tag(alloc: Global, old: &[u8], new: &[u8]) -> Result<String, AllocError>
-    ensures { IfOk result (λ text. string_bytes text ≡ words.changed (codes "tag") (shown_or_none old.now) (shown_or_none new.now)) }
+    ensures { IfOk result (λ text. string_bytes text
+        ≡ words.changed (codes "tag") (shown_or_none old.now) (shown_or_none new.now)) }
 {
     let old = tag_text(alloc, old)?;
     let new = tag_text(alloc, new)?;
@@ -130,7 +133,8 @@ pub(crate) fn part_gone(
     i: usize,
 ) -> Result<String, AllocError>
     requires { i < length old.now.parts }
-    ensures { IfOk result (λ text. string_bytes text ≡ concat (sort.now ∷ codes " " ∷ steps.part_name old.now i ∷ codes " gone" ∷ [])) }
+    ensures { IfOk result (λ text. string_bytes text
+        ≡ concat (sort.now ∷ codes " " ∷ steps.part_name old.now i ∷ codes " gone" ∷ [])) }
 {
     let name = part_name(alloc, old, i)?;
     format!(in alloc; "{sort} {name} gone")
@@ -176,7 +180,8 @@ fn number_changed(
     old: u64,
     new: u64,
 ) -> Result<String, AllocError>
-    ensures { IfOk result (λ text. string_bytes text ≡ concat (sort.now ∷ name.now ∷ said.now ∷ decimal old ∷ codes ", now " ∷ decimal new ∷ [])) }
+    ensures { IfOk result (λ text. string_bytes text
+        ≡ concat (sort.now ∷ name.now ∷ said.now ∷ decimal old ∷ codes ", now " ∷ decimal new ∷ [])) }
 {
     format!(in alloc; "{sort}{name}{said}{old}, now {new}")
 }
@@ -189,7 +194,8 @@ pub(crate) fn bit_changed(
     i: usize,
 ) -> Result<String, AllocError>
     requires { i < length old.now.parts }
-    ensures { IfOk result (λ text. string_bytes text ≡ part_change (codes "member ") (codes " at bit ") type_rules.bit_at old.now new.now i) }
+    ensures { IfOk result (λ text. string_bytes text
+        ≡ part_change (codes "member ") (codes " at bit ") type_rules.bit_at old.now new.now i) }
 {
     let name = part_name(alloc, old, i)?;
     number_changed(
@@ -210,7 +216,8 @@ pub(crate) fn width_changed(
     i: usize,
 ) -> Result<String, AllocError>
     requires { i < length old.now.parts }
-    ensures { IfOk result (λ text. string_bytes text ≡ part_change (codes "member ") (codes " width ") type_rules.width_at old.now new.now i) }
+    ensures { IfOk result (λ text. string_bytes text
+        ≡ part_change (codes "member ") (codes " width ") type_rules.width_at old.now new.now i) }
 {
     let name = part_name(alloc, old, i)?;
     number_changed(
@@ -231,7 +238,8 @@ pub(crate) fn value_changed(
     i: usize,
 ) -> Result<String, AllocError>
     requires { i < length old.now.parts }
-    ensures { IfOk result (λ text. string_bytes text ≡ part_change (codes "enumerator ") (codes " ") type_rules.value_at old.now new.now i) }
+    ensures { IfOk result (λ text. string_bytes text
+        ≡ part_change (codes "enumerator ") (codes " ") type_rules.value_at old.now new.now i) }
 {
     let name = part_name(alloc, old, i)?;
     number_changed(
@@ -269,7 +277,8 @@ fn outcome_changed(
     old: &View<OldIx>,
     new: &View<NewIx>,
 ) -> Result<String, AllocError>
-    ensures { IfOk result (λ text. string_bytes text ≡ words.changed (codes "result in") (places.place_text old.now.call.outcome) (places.place_text new.now.call.outcome)) }
+    ensures { IfOk result (λ text. string_bytes text
+        ≡ words.changed (codes "result in") (places.place_text old.now.call.outcome) (places.place_text new.now.call.outcome)) }
 {
     let old = place_text(alloc, &old.call.outcome())?;
     let new = place_text(alloc, &new.call.outcome())?;
@@ -278,7 +287,8 @@ fn outcome_changed(
 
 // A parameter by its number, its old place, and its new place.
 fn moved(alloc: Global, number: u128, old: &str, new: &str) -> Result<String, AllocError>
-    ensures { IfOk result (λ text. string_bytes text ≡ concat (codes "param " ∷ decimal number ∷ codes " in " ∷ old.now ∷ codes ", now " ∷ new.now ∷ [])) }
+    ensures { IfOk result (λ text. string_bytes text
+        ≡ concat (codes "param " ∷ decimal number ∷ codes " in " ∷ old.now ∷ codes ", now " ∷ new.now ∷ [])) }
 {
     format!(in alloc; "param {number} in {old}, now {new}")
 }
@@ -290,7 +300,8 @@ fn param_changed(
     old: &Place,
     new: &Place,
 ) -> Result<String, AllocError>
-    ensures { IfOk result (λ text. string_bytes text ≡ concat (codes "param " ∷ decimal (before + 1) ∷ codes " in " ∷ places.place_text old.now ∷ codes ", now " ∷ places.place_text new.now ∷ [])) }
+    ensures { IfOk result (λ text. string_bytes text
+        ≡ concat (codes "param " ∷ decimal (before + 1) ∷ codes " in " ∷ places.place_text old.now ∷ codes ", now " ∷ places.place_text new.now ∷ [])) }
 {
     let old = place_text(alloc, old)?;
     let new = place_text(alloc, new)?;
@@ -305,7 +316,8 @@ pub(crate) fn place_changed(
     i: usize,
 ) -> Result<String, AllocError>
     requires { i < length old.now.parts }
-    ensures { IfOk result (λ text. string_bytes text ≡ places_change (part_at old.now i) (matching.number_of old.now i) old.now new.now) }
+    ensures { IfOk result (λ text. string_bytes text
+        ≡ places_change (part_at old.now i) (matching.number_of old.now i) old.now new.now) }
 {
     match old.part(i) {
         Part::Param { .. } => {

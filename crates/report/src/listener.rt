@@ -61,9 +61,12 @@ pub fn tell_all(
 ) -> Result<(), NoMemory>
     requires { All (λ listener. heard listener ≡ []) listeners.items }
     // The texts stand in the order of the listeners.
-    ensures ok { OnOk result ((texts : List (List ℕ)) × Reports (map voice listeners.items) rows.now texts × (out.new.items ≡ out.old.items ++ concat texts)) }
+    ensures ok { OnOk result ((texts : List (List ℕ)) × Reports (map voice listeners.items) rows.now texts
+        × (out.new.items ≡ out.old.items ++ concat texts)) }
     // If memory runs out, only the whole texts of the first listeners are appended.
-    ensures err { OnErr result ((n : ℕ) × (texts : List (List ℕ)) × Reports (take n (map voice listeners.items)) rows.now texts × (out.new.items ≡ out.old.items ++ concat texts)) }
+    ensures err { OnErr result ((n : ℕ) × (texts : List (List ℕ))
+        × Reports (take n (map voice listeners.items)) rows.now texts
+        × (out.new.items ≡ out.old.items ++ concat texts)) }
     ensures named { IfErr result (λ e. e ≡ Allocation) }
 {
     let mut waiting = listeners;

@@ -49,7 +49,8 @@ pub(crate) fn push_part_name<Ix: Index>(
 
 // Appends the step by a parameter that has this many before it.
 fn push_param(text: &mut String, before: usize) -> Result<(), AllocError>
-    ensures { OnOk result (string_bytes text.new ≡ string_bytes text.old ++ concat (codes "param " ∷ decimal (before + 1) ∷ [])) }
+    ensures { OnOk result (string_bytes text.new
+        ≡ string_bytes text.old ++ concat (codes "param " ∷ decimal (before + 1) ∷ [])) }
 {
     let number = before as u128 + 1;
     write!(text, "param {number}")

@@ -27,7 +27,8 @@ pub fn type_detail(
     new: &View<NewIx>,
 ) -> Result<String, AllocError>
     requires { IsInside old.now broken.now }
-    ensures { IfOk result (λ text. string_bytes text ≡ spec.type_detail broken.now.rule old.now new.now broken.now.part) }
+    ensures { IfOk result (λ text. string_bytes text
+        ≡ spec.type_detail broken.now.rule old.now new.now broken.now.part) }
 {
     let i = broken.part;
     match broken.rule {

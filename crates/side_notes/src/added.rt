@@ -66,7 +66,8 @@ fn push_each(
     old: &Library<OldIx>,
     exports: &[Export],
 ) -> Result<(), NoMemory>
-    ensures { OnOk result (notes.new ≡ notes.old ++ flat_map (λ (e : AnyExport). notes_if_added old.now.exports (plain_export e)) exports.now) }
+    ensures { OnOk result (notes.new
+        ≡ notes.old ++ flat_map (λ (e : AnyExport). notes_if_added old.now.exports (plain_export e)) exports.now) }
 {
     for export in exports {
         push_if_added(alloc, notes, old, export)?;

@@ -117,7 +117,8 @@ fn push_beside(
     row: &TypeRow,
     export: u32,
 ) -> Result<(), NoMemory>
-    ensures { OnOk result (notes.new ≡ notes.old ++ note_beside row.now.library.now row.now.export row.now.text.now export) }
+    ensures { OnOk result (notes.new
+        ≡ notes.old ++ note_beside row.now.library.now row.now.export row.now.text.now export) }
 {
     if export == row.export {
         return Ok(());
@@ -190,7 +191,8 @@ impl NoteRoom {
     // Takes the note on an export at a row, by the letters of the export's name and of the row's text. Fails exactly where there are
     // fewer bytes, and names the limit.
     fn take_note(&mut self, row: &TypeRow, export: u32) -> Result<(), NoMemory>
-        ensures ok { OnOk result (self.old.bytes ≡ self.new.bytes + note_size row.now.library.now row.now.text.now export) }
+        ensures ok { OnOk result (self.old.bytes
+            ≡ self.new.bytes + note_size row.now.library.now row.now.text.now export) }
         ensures err { OnErr result (self.old.bytes < note_size row.now.library.now row.now.text.now export) }
         ensures named { IfErr result (λ e. e ≡ Past AffectedExports) }
         ensures steps { self.new.steps ≡ self.old.steps }
@@ -202,7 +204,8 @@ impl NoteRoom {
 
     // Takes the notes on exports at a row, one for each export. Fails exactly where there are fewer bytes, and names the limit.
     fn take_notes(&mut self, row: &TypeRow, exports: &[u32]) -> Result<(), NoMemory>
-        ensures ok { OnOk result (self.old.bytes ≡ self.new.bytes + sum_by (note_size row.now.library.now row.now.text.now) exports.now) }
+        ensures ok { OnOk result (self.old.bytes
+            ≡ self.new.bytes + sum_by (note_size row.now.library.now row.now.text.now) exports.now) }
         ensures err { OnErr result (self.old.bytes < sum_by (note_size row.now.library.now row.now.text.now) exports.now) }
         ensures named { IfErr result (λ e. e ≡ Past AffectedExports) }
         ensures steps { self.new.steps ≡ self.old.steps }
@@ -221,7 +224,8 @@ fn push_others(
     row: &TypeRow,
     exports: &[u32],
 ) -> Result<(), NoMemory>
-    ensures { OnOk result (notes.new ≡ notes.old ++ flat_map (note_beside row.now.library.now row.now.export row.now.text.now) exports.now) }
+    ensures { OnOk result (notes.new
+        ≡ notes.old ++ flat_map (note_beside row.now.library.now row.now.export row.now.text.now) exports.now) }
 {
     for export in exports {
         push_beside(alloc, notes, row, *export)?;
@@ -245,7 +249,8 @@ fn push_at(
     room: &mut NoteRoom,
 ) -> Result<(), NoMemory>
     requires { AreSpelled ground.now.library.now ground.now.walk.now.visits.now }
-    ensures { OnOk result (notes.new ≡ notes.old ++ row_notes ground.now.library.now ground.now.walk.now.visits.now (led.now.number, led.now.exports.now)) }
+    ensures { OnOk result (notes.new
+        ≡ notes.old ++ row_notes ground.now.library.now ground.now.walk.now.visits.now (led.now.number, led.now.exports.now)) }
 {
     parents_spell_paths();
     let Some(_visit) = ground.walk.visits.get(led.number) else {
@@ -274,7 +279,8 @@ fn push_row(
 ) -> Result<(), NoMemory>
     requires spelled { AreSpelled ground.now.library.now ground.now.walk.now.visits.now }
     requires walk { IsWalk (scope_of ground.now.walk.now.ground.now) ground.now.walk.now.visits.now ground.now.walk.now.numbers.now }
-    requires arrows { ground.now.arrows.now ≡ all_arrows (scope_of ground.now.walk.now.ground.now) ground.now.walk.now.visits.now ground.now.walk.now.numbers.now }
+    requires arrows { ground.now.arrows.now
+        ≡ all_arrows (scope_of ground.now.walk.now.ground.now) ground.now.walk.now.visits.now ground.now.walk.now.numbers.now }
     ensures { OnOk result (AddsRow ground.now.library.now (scope_of ground.now.walk.now.ground.now) ground.now.walk.now.visits.now number notes.old notes.new) }
 {
     let (old, new) = pair_at(ground.walk.visits, number);
@@ -292,7 +298,8 @@ fn push_row(
 fn rows_of(alloc: Global, ground: &Ground, numbers: &[usize]) -> Result<List<Note>, NoMemory>
     requires spelled { AreSpelled ground.now.library.now ground.now.walk.now.visits.now }
     requires walk { IsWalk (scope_of ground.now.walk.now.ground.now) ground.now.walk.now.visits.now ground.now.walk.now.numbers.now }
-    requires arrows { ground.now.arrows.now ≡ all_arrows (scope_of ground.now.walk.now.ground.now) ground.now.walk.now.visits.now ground.now.walk.now.numbers.now }
+    requires arrows { ground.now.arrows.now
+        ≡ all_arrows (scope_of ground.now.walk.now.ground.now) ground.now.walk.now.visits.now ground.now.walk.now.numbers.now }
     ensures { IfOk result (AreRowNotes ground.now.library.now (scope_of ground.now.walk.now.ground.now) ground.now.walk.now.visits.now numbers.now) }
 {
     let mut room = NoteRoom::beside(ground.library);

@@ -105,7 +105,8 @@ fn push_section(alloc: Global, notes: &mut List<Note>, section: &Section) -> Res
 
 // Appends the notes on these sections, one after another.
 fn push_each(alloc: Global, notes: &mut List<Note>, sections: &[&Section]) -> Result<(), NoMemory>
-    ensures { OnOk result (notes.new ≡ notes.old ++ map (λ (section : Bor PlainSection). idle_note section.now) sections.now) }
+    ensures { OnOk result (notes.new
+        ≡ notes.old ++ map (λ (section : Bor PlainSection). idle_note section.now) sections.now) }
 {
     for section in sections {
         push_section(alloc, notes, *section)?;

@@ -13,6 +13,7 @@ pub fn the_same_bytes_have_no_notes()
 /// Notes that do not name their types are all kept, in their order.
 pub fn notes_are_said_once()
     ensures said { (notes : List Note) (note : Note) → is_said (said_once notes) note ≡ is_said notes note }
-    ensures once { (notes : List Note) (n : ℕ) (note : Note) → slice_get (said_once notes) n ≡ Some note → is_said (take n (said_once notes)) note ≡ false }
+    ensures once { (notes : List Note) (n : ℕ) (note : Note) → slice_get (said_once notes) n ≡ Some note
+        → is_said (take n (said_once notes)) note ≡ false }
     ensures others { (notes : List Note) → filter names_none (said_once notes) ≡ filter names_none notes }
 {}

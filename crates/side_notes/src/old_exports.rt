@@ -31,7 +31,8 @@ fn push_on(
     export: &Export,
 ) -> Result<(), NoMemory>
     requires { AreKin related.now.old.now.exports related.now.new.now.exports related.now.kin.now }
-    ensures { OnOk result (notes.new ≡ notes.old ++ notes_to related.now.old.now.exports related.now.new.now.exports (plain_export export.now) (bound_in related.now.new.now.exports (plain_export export.now))) }
+    ensures { OnOk result (notes.new
+        ≡ notes.old ++ notes_to related.now.old.now.exports related.now.new.now.exports (plain_export export.now) (bound_in related.now.new.now.exports (plain_export export.now))) }
 {
     match bound_to(export, related.new) {
         None => push_successor(alloc, notes, related, export),
@@ -48,7 +49,8 @@ fn push_at(
     k: usize,
 ) -> Result<(), NoMemory>
     requires { AreKin related.now.old.now.exports related.now.new.now.exports related.now.kin.now }
-    ensures { OnOk result (notes.new ≡ notes.old ++ notes_at marks.now.exports related.now.old.now.exports related.now.new.now.exports k) }
+    ensures { OnOk result (notes.new
+        ≡ notes.old ++ notes_at marks.now.exports related.now.old.now.exports related.now.new.now.exports k) }
 {
     if !is_compared(marks, k) {
         return Ok(());
@@ -68,7 +70,8 @@ pub fn push_old_exports(
     new: &Library<NewIx>,
     marks: &Marks,
 ) -> Result<(), NoMemory>
-    ensures { OnOk result (notes.new ≡ notes.old ++ old_export_notes marks.now.exports old.now.exports new.now.exports) }
+    ensures { OnOk result (notes.new
+        ≡ notes.old ++ old_export_notes marks.now.exports old.now.exports new.now.exports) }
 {
     let kin = kin_of(alloc, old, new)?;
     let related = Related {

@@ -15,8 +15,10 @@ type Said = BTreeSet<(Vec<u8>, Vec<u8>)>;
 // Adds the names of a note to those of the notes before it, and returns whether they are new.
 fn put_names(alloc: Global, said: &mut Said, note: &Note) -> Result<bool, NoMemory>
     requires { IsTrue (names_types note.now) }
-    ensures new { IfOk result (λ new. (notes : List Note) → AreSaid notes said.old → new ≡ not (is_said notes note.now)) }
-    ensures said { OnOk result ((notes : List Note) → AreSaid notes said.old → AreSaid (notes ++ note.now ∷ []) said.new) }
+    ensures new { IfOk result (λ new. (notes : List Note) → AreSaid notes said.old
+        → new ≡ not (is_said notes note.now)) }
+    ensures said { OnOk result ((notes : List Note) → AreSaid notes said.old
+        → AreSaid (notes ++ note.now ∷ []) said.new) }
 {
     let was = Vec::from_slice(alloc, note.was.as_slice())?;
     let is = Vec::from_slice(alloc, note.is.as_slice())?;
@@ -26,8 +28,10 @@ fn put_names(alloc: Global, said: &mut Said, note: &Note) -> Result<bool, NoMemo
 
 // Whether no earlier note says the same as this one. It keeps the names of a note on names.
 fn is_new(alloc: Global, said: &mut Said, note: &Note) -> Result<bool, NoMemory>
-    ensures new { IfOk result (λ new. (notes : List Note) → AreSaid notes said.old → new ≡ not (is_said notes note.now)) }
-    ensures said { OnOk result ((notes : List Note) → AreSaid notes said.old → AreSaid (notes ++ note.now ∷ []) said.new) }
+    ensures new { IfOk result (λ new. (notes : List Note) → AreSaid notes said.old
+        → new ≡ not (is_said notes note.now)) }
+    ensures said { OnOk result ((notes : List Note) → AreSaid notes said.old
+        → AreSaid (notes ++ note.now ∷ []) said.new) }
 {
     if note.kind == NoteKind::TagOrName {
         return put_names(alloc, said, note);

@@ -127,7 +127,8 @@ pub fn push_successor(
     export: &Export,
 ) -> Result<(), NoMemory>
     requires { AreKin related.now.old.now.exports related.now.new.now.exports related.now.kin.now }
-    ensures { OnOk result (notes.new ≡ notes.old ++ successor_notes related.now.old.now.exports related.now.new.now.exports (plain_export export.now)) }
+    ensures { OnOk result (notes.new
+        ≡ notes.old ++ successor_notes related.now.old.now.exports related.now.new.now.exports (plain_export export.now)) }
 {
     let Some(found) = successor_of(related, export) else {
         return Ok(());

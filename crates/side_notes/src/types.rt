@@ -160,7 +160,8 @@ fn with_rules(
     rules: &Rules,
 ) -> Result<Beside, NoMemory>
     ensures notes { IfOk result (λ beside. AreByRules old.now.library new.now.library old.now.dwarf new.now.dwarf rules.now beside.notes) }
-    ensures counts { IfOk result (λ beside. beside.counts ≡ Some (counts_by old.now.library new.now.library (marks_spec.marks_of rules.now old.now.library))) }
+    ensures counts { IfOk result (λ beside. beside.counts
+        ≡ Some (counts_by old.now.library new.now.library (marks_spec.marks_of rules.now old.now.library))) }
 {
     let marks = marks_by(alloc, rules, &old.library)?;
     let own = own_notes(alloc, &old.library, &new.library, rules, &marks)?;
@@ -181,7 +182,8 @@ fn with_both(
     rules: &[u8],
 ) -> Result<Beside, NoMemory>
     ensures notes { IfOk result (λ beside. AreWithBoth old.now.library new.now.library old.now.dwarf new.now.dwarf rules.now beside.notes) }
-    ensures counts { IfOk result (λ beside. beside.counts ≡ counts_with_both old.now.library new.now.library rules.now) }
+    ensures counts { IfOk result (λ beside. beside.counts
+        ≡ counts_with_both old.now.library new.now.library rules.now) }
 {
     match read_rules(alloc, rules) {
         Ok(rules) => with_rules(alloc, old, new, &rules),
@@ -229,7 +231,8 @@ fn of_files(alloc: Global, old: &[u8], new: &[u8], rules: &[u8]) -> Result<Besid
 fn with_needs(alloc: Global, beside: Beside, old: &[u8], new: &[u8]) -> Result<Beside, NoMemory>
     requires old_short { length old.now ≤ input_limit }
     requires new_short { length new.now ≤ input_limit }
-    ensures notes { IfOk result (λ all. all.notes ≡ beside.notes ++ needs_where beside.counts (needs_notes old.now new.now)) }
+    ensures notes { IfOk result (λ all. all.notes
+        ≡ beside.notes ++ needs_where beside.counts (needs_notes old.now new.now)) }
     ensures counts { IfOk result (λ all. all.counts ≡ beside.counts) }
 {
     let Beside { mut notes, counts } = beside;
@@ -304,7 +307,8 @@ fn own_counts_by_rules(
     library: &Library<OldIx>,
     rules: &Rules,
 ) -> Result<Option<Counts>, NoMemory>
-    ensures { IfOk result (λ counts. counts ≡ Some (counts_by library.now library.now (marks_spec.marks_of rules.now library.now))) }
+    ensures { IfOk result (λ counts. counts
+        ≡ Some (counts_by library.now library.now (marks_spec.marks_of rules.now library.now))) }
 {
     let marks = marks_by(alloc, rules, library)?;
     Ok(Some(own_counts_by_marks(alloc, library, &marks)?))

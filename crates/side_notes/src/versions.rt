@@ -63,7 +63,8 @@ fn push_each(
     known: &VersionList,
     versions: &[&[u8]],
 ) -> Result<(), NoMemory>
-    ensures { OnOk result (notes.new ≡ notes.old ++ flat_map (λ (v : Bor (List ℕ)). notes_if_new known.now v.now) versions.now) }
+    ensures { OnOk result (notes.new
+        ≡ notes.old ++ flat_map (λ (v : Bor (List ℕ)). notes_if_new known.now v.now) versions.now) }
 {
     for version in versions {
         push_if_new(alloc, notes, known, version)?;

@@ -76,7 +76,8 @@ fn name_once<'x>(
     label: &Label<'x>,
 ) -> Result<MarkedByWay, NoMemory>
     requires { IsKnown sections.old (option_copied soname) known.old }
-    ensures ways { IfOk result (λ ways. ways ≡ name_ways sections.old (option_copied soname.entry) (plain_label label.now)) }
+    ensures ways { IfOk result (λ ways. ways
+        ≡ name_ways sections.old (option_copied soname.entry) (plain_label label.now)) }
     ensures same { sections.new ≡ sections.old }
     ensures known { OnOk result (IsKnown sections.old (option_copied soname.entry) known.new) }
     ensures named { IfErr result (λ e. e ≡ Allocation) }
@@ -98,7 +99,8 @@ pub fn names_once<'x>(
     labels: &[Label<'x>],
 ) -> Result<MarkedByWay, NoMemory>
     requires { IsKnown sections.old (option_copied soname) known.old }
-    ensures ways { IfOk result (λ ways. ways ≡ names_ways sections.old (option_copied soname.entry) (map plain_label labels.now)) }
+    ensures ways { IfOk result (λ ways. ways
+        ≡ names_ways sections.old (option_copied soname.entry) (map plain_label labels.now)) }
     ensures same { sections.new ≡ sections.old }
     ensures known { OnOk result (IsKnown sections.old (option_copied soname.entry) known.new) }
     ensures named { IfErr result (λ e. e ≡ Allocation) }

@@ -27,7 +27,8 @@ impl<'r> Model for BoxedProperty<'r> {
 
     ghost view = { λ b. b.property.now };
 
-    ghost invariant = { λ b. ForSome b.compiled (λ c. c.value ≡ b.property.now) × IfNone b.compiled (keys.has_pattern b.property.now.key ≡ false) };
+    ghost invariant = { λ b. ForSome b.compiled (λ c. c.value ≡ b.property.now)
+        × IfNone b.compiled (keys.has_pattern b.property.now.key ≡ false) };
 }
 
 impl<'r> BoxedProperty<'r> {
@@ -89,7 +90,8 @@ impl<'c> Model for BoxedTest<'c> {
 
     ghost view = { λ b. b.property.now };
 
-    ghost invariant = { λ b. ForSome b.test (λ t. t.value ≡ b.property.now) × IfNone b.test (keys.has_pattern b.property.now.key ≡ false) };
+    ghost invariant = { λ b. ForSome b.test (λ t. t.value ≡ b.property.now)
+        × IfNone b.test (keys.has_pattern b.property.now.key ≡ false) };
 }
 
 impl<'c> BoxedTest<'c> {

@@ -39,7 +39,8 @@ fn compiled_drop(
     soname: Option<&[u8]>,
     export: &Export,
 ) -> Result<bool, NoMemory>
-    ensures is { IfOk result (λ drop. drop ≡ drops compiled.now (option_copied soname.entry) (plain_export export.now)) }
+    ensures is { IfOk result (λ drop. drop
+        ≡ drops compiled.now (option_copied soname.entry) (plain_export export.now)) }
     ensures past { IfErr result (λ e. OnLimit e (PassesCompiled compiled.now)) }
 {
     let mut ready = ReadyRules::of(alloc, compiled)?;
@@ -55,7 +56,8 @@ fn chosen_drop(
     soname: Option<&[u8]>,
     export: &Export,
 ) -> Result<bool, NoMemory>
-    ensures is { IfOk result (λ drop. drop ≡ drops (chosen asking sections.now) (option_copied soname.entry) (plain_export export.now)) }
+    ensures is { IfOk result (λ drop. drop
+        ≡ drops (chosen asking sections.now) (option_copied soname.entry) (plain_export export.now)) }
     ensures past { IfErr result (λ e. OnLimit e (PassesHandles sections.now)) }
 {
     let compiled = CompiledSections::chosen(alloc, sections, asking)?;
@@ -71,7 +73,8 @@ pub fn drops_export(
     soname: Option<&[u8]>,
     export: &Export,
 ) -> Result<bool, NoMemory>
-    ensures is { IfOk result (λ drops. drops ≡ is_dropped rules.now (option_copied soname.entry) (plain_export export.now)) }
+    ensures is { IfOk result (λ drops. drops
+        ≡ is_dropped rules.now (option_copied soname.entry) (plain_export export.now)) }
     ensures past { IfErr result (λ e. OnLimit e (PassesHandles rules.now.sections)) }
 {
     let named = chosen_drop(alloc, rules.sections(), true, soname, export)?;
@@ -104,7 +107,8 @@ fn compiled_mark(
     labels: &[Label],
     way: Way,
 ) -> Result<bool, NoMemory>
-    ensures is { IfOk result (λ mark. mark ≡ marks_names compiled.now (option_copied soname.entry) way (map plain_label labels.now)) }
+    ensures is { IfOk result (λ mark. mark
+        ≡ marks_names compiled.now (option_copied soname.entry) way (map plain_label labels.now)) }
     ensures past { IfErr result (λ e. OnLimit e (PassesCompiled compiled.now)) }
 {
     let mut ready = ReadyRules::of(alloc, compiled)?;
@@ -120,7 +124,8 @@ pub fn drops_labels(
     labels: &[Label],
     way: Way,
 ) -> Result<bool, NoMemory>
-    ensures is { IfOk result (λ drops. drops ≡ is_marked rules.now (option_copied soname.entry) (map plain_label labels.now) way) }
+    ensures is { IfOk result (λ drops. drops
+        ≡ is_marked rules.now (option_copied soname.entry) (map plain_label labels.now) way) }
     ensures past { IfErr result (λ e. OnLimit e (PassesHandles rules.now.sections)) }
 {
     let named = CompiledSections::chosen(alloc, rules.sections(), true)?;
@@ -159,7 +164,8 @@ fn kind_flags(
     exports: &[Export],
 ) -> Result<List<bool>, NoMemory>
     requires { some_ask sections.old ≡ false }
-    ensures flags { IfOk result (λ flags. flags ≡ map (drops sections.old (option_copied soname.entry)) (plain_exports exports.now)) }
+    ensures flags { IfOk result (λ flags. flags
+        ≡ map (drops sections.old (option_copied soname.entry)) (plain_exports exports.now)) }
     ensures same { sections.new ≡ sections.old }
     ensures named { IfErr result (λ e. e ≡ Allocation) }
 {
@@ -179,7 +185,8 @@ fn export_flags(
     soname: Option<&[u8]>,
     exports: &[Export],
 ) -> Result<List<bool>, NoMemory>
-    ensures flags { IfOk result (λ flags. flags ≡ map (drops sections.old (option_copied soname.entry)) (plain_exports exports.now)) }
+    ensures flags { IfOk result (λ flags. flags
+        ≡ map (drops sections.old (option_copied soname.entry)) (plain_exports exports.now)) }
     ensures same { sections.new ≡ sections.old }
     ensures named { IfErr result (λ e. e ≡ Allocation) }
 {
@@ -207,8 +214,10 @@ fn node_flags(
     soname: Option<&[u8]>,
     graph: &Graph<OldIx>,
 ) -> Result<NodeFlags, NoMemory>
-    ensures direct { IfOk result (λ flags. flags.direct ≡ map (λ (n : PlainNode). marks_names sections.old (option_copied soname.entry) Way.Direct n.labels) graph.now) }
-    ensures pointer { IfOk result (λ flags. flags.pointer ≡ map (λ (n : PlainNode). marks_names sections.old (option_copied soname.entry) Way.Pointer n.labels) graph.now) }
+    ensures direct { IfOk result (λ flags. flags.direct
+        ≡ map (λ (n : PlainNode). marks_names sections.old (option_copied soname.entry) Way.Direct n.labels) graph.now) }
+    ensures pointer { IfOk result (λ flags. flags.pointer
+        ≡ map (λ (n : PlainNode). marks_names sections.old (option_copied soname.entry) Way.Pointer n.labels) graph.now) }
     ensures named { IfErr result (λ e. e ≡ Allocation) }
 {
     let mut known = BTreeMap::new(alloc);

@@ -187,7 +187,8 @@ impl<'c> Model for ReadyRules<'c> {
 
     ghost view = { λ r. r.sections.items };
 
-    ghost invariant = { λ r. (r.order ≡ handles_of r.sections.items) × (r.asks ≡ some_ask r.sections.items) × ForSome r.gate (λ finder. finder.value ≡ gates_of r.sections.items) };
+    ghost invariant = { λ r. (r.order ≡ handles_of r.sections.items) × (r.asks ≡ some_ask r.sections.items)
+        × ForSome r.gate (λ finder. finder.value ≡ gates_of r.sections.items) };
 }
 
 impl<'c> ReadyRules<'c> {

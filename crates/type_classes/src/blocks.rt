@@ -135,7 +135,8 @@ impl Blocks {
         ensures len { OnOk result (len_of self.new ≡ len_of self.old) }
         ensures count { OnOk result (count_of self.new ≡ count_of self.old) }
         ensures classes { OnOk result ((x : ℕ) → class_in self.new x ≡ class_in self.old x) }
-        ensures marks { OnOk result ((x : ℕ) → x < len_of self.old → is_marked self.new x ≡ (is_marked self.old x || x == number)) }
+        ensures marks { OnOk result ((x : ℕ) → x < len_of self.old
+            → is_marked self.new x ≡ (is_marked self.old x || x == number)) }
         ensures named { IfErr result (λ e. e ≡ Allocation) }
     {
         let class = self.class[number];
@@ -158,8 +159,10 @@ impl Blocks {
         ensures class { OnOk result (self.new.class ≡ self.old.class) }
         ensures blocks { OnOk result (self.new.blocks ≡ self.old.blocks) }
         ensures kept { OnOk result ((c : ℕ) → Contains self.old.touched.items c → Contains self.new.touched.items c) }
-        ensures listed { OnOk result (middle_at self.old.blocks.items class ≡ first_at self.old.blocks.items class → Contains self.new.touched.items class) }
-        ensures inside { OnOk result ((c : ℕ) → Contains self.new.touched.items c → Contains self.old.touched.items c ⊎ (c ≡ class)) }
+        ensures listed { OnOk result (middle_at self.old.blocks.items class ≡ first_at self.old.blocks.items class
+            → Contains self.new.touched.items class) }
+        ensures inside { OnOk result ((c : ℕ) → Contains self.new.touched.items c → Contains self.old.touched.items c
+            ⊎ (c ≡ class)) }
         ensures named { IfErr result (λ e. e ≡ Allocation) }
     {
         let block = self.blocks[class];
@@ -196,9 +199,12 @@ impl Blocks {
 
     // Assigns the numbers at the places of a block to a class.
     fn put_into(&mut self, block: Block, class: usize)
-        requires blocks { (i : ℕ) → i < length self.old.order.items → at self.old.order.items i < length self.old.class.items }
-        requires placed { (i : ℕ) → i < length self.old.order.items → at self.old.place.items (at self.old.order.items i) ≡ i }
-        requires ordered { (x : ℕ) → x < length self.old.order.items → at self.old.order.items (at self.old.place.items x) ≡ x }
+        requires blocks { (i : ℕ) → i < length self.old.order.items
+            → at self.old.order.items i < length self.old.class.items }
+        requires placed { (i : ℕ) → i < length self.old.order.items
+            → at self.old.place.items (at self.old.order.items i) ≡ i }
+        requires ordered { (x : ℕ) → x < length self.old.order.items
+            → at self.old.order.items (at self.old.place.items x) ≡ x }
         requires rising { block.first ≤ block.end }
         requires inside { block.end ≤ length self.old.order.items }
         ensures order { self.new.order ≡ self.old.order }

@@ -67,7 +67,8 @@ impl Incoming {
     fn push_parts(&self, into: &mut Vec<(usize, usize)>, node: usize) -> Result<(), NoMemory>
         requires linked { AreLinked self.now }
         requires inside { node < node_count self.now }
-        ensures appended { OnOk result ((e : ℕ × ℕ) → Contains into.new.items e ↔ (Contains into.old.items e ⊎ IsIncoming self.now node e)) }
+        ensures appended { OnOk result ((e : ℕ × ℕ) → Contains into.new.items e ↔ (Contains into.old.items e
+            ⊎ IsIncoming self.now node e)) }
         ensures named { IfErr result (λ e. e ≡ Allocation) }
     {
         let mut link = self.last[node];
@@ -152,7 +153,8 @@ fn join(
 ) -> Result<(), NoMemory>
     requires linked { AreLinked incoming.now }
     requires inside { (s : ℕ) → Contains nodes.now s → s < node_count incoming.now }
-    ensures joined { OnOk result ((e : ℕ × ℕ) → Contains into.new.items e ↔ ((s : ℕ) × Contains nodes.now s × IsIncoming incoming.now s e)) }
+    ensures joined { OnOk result ((e : ℕ × ℕ) → Contains into.new.items e ↔ ((s : ℕ) × Contains nodes.now s
+        × IsIncoming incoming.now s e)) }
     ensures named { IfErr result (λ e. e ≡ Allocation) }
 {
     into.clear();
@@ -171,7 +173,8 @@ pub fn join_incoming(
     requires linked { AreLinked incoming.now }
     requires inside { (s : ℕ) → Contains nodes.now s → s < node_count incoming.now }
     ensures rising { OnOk result (IsNonDecreasingBy key_of into.new.items) }
-    ensures pairs { OnOk result ((e : ℕ × ℕ) → Contains into.new.items e ↔ ((s : ℕ) × Contains nodes.now s × IsIncoming incoming.now s e)) }
+    ensures pairs { OnOk result ((e : ℕ × ℕ) → Contains into.new.items e ↔ ((s : ℕ) × Contains nodes.now s
+        × IsIncoming incoming.now s e)) }
     ensures named { IfErr result (λ e. e ≡ Allocation) }
 {
     join(into, incoming, nodes)?;

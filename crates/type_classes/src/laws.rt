@@ -13,7 +13,8 @@ use pair_rules::laws::rules_see_no_nodes;
 
 /// If the classes of a graph are stable, nodes of one class are alike.
 pub fn what_is_stable_is_alike()
-    ensures { (nodes : List PlainNode) (class : ℕ → ℕ) → IsGraph nodes → IsStable nodes class → (i j : ℕ) → i < length nodes → j < length nodes
+    ensures { (nodes : List PlainNode) (class : ℕ → ℕ) → IsGraph nodes → IsStable nodes class → (i j : ℕ)
+        → i < length nodes → j < length nodes
         → class i ≡ class j → AreAlike nodes i j }
 {}
 
@@ -21,15 +22,18 @@ pub fn what_is_stable_is_alike()
 pub fn alike_is_an_equivalence()
     ensures reflexive { (nodes : List PlainNode) (i : ℕ) → AreAlike nodes i i }
     ensures symmetric { (nodes : List PlainNode) (i j : ℕ) → AreAlike nodes i j → AreAlike nodes j i }
-    ensures transitive { (nodes : List PlainNode) (i j k : ℕ) → IsGraph nodes → i < length nodes → j < length nodes → k < length nodes
+    ensures transitive { (nodes : List PlainNode) (i j k : ℕ) → IsGraph nodes → i < length nodes → j < length nodes
+        → k < length nodes
         → AreAlike nodes i j → AreAlike nodes j k → AreAlike nodes i k }
 {}
 
 /// A type breaks the same rules against alike nodes, and its parts have partners at the same positions, whether the alike nodes are
 /// the old ones or the new ones.
 pub fn alike_nodes_break_the_same_rules()
-    ensures old { (nodes : List PlainNode) (i j : ℕ) (w : PlainView) → AreAlike nodes i j → breaks (view_at nodes i) w ≡ breaks (view_at nodes j) w }
-    ensures new { (nodes : List PlainNode) (i j : ℕ) (v : PlainView) → AreAlike nodes i j → breaks v (view_at nodes i) ≡ breaks v (view_at nodes j) }
+    ensures old { (nodes : List PlainNode) (i j : ℕ) (w : PlainView) → AreAlike nodes i j
+        → breaks (view_at nodes i) w ≡ breaks (view_at nodes j) w }
+    ensures new { (nodes : List PlainNode) (i j : ℕ) (v : PlainView) → AreAlike nodes i j
+        → breaks v (view_at nodes i) ≡ breaks v (view_at nodes j) }
     ensures old_partners { (nodes : List PlainNode) (i j : ℕ) (w : PlainView) (k : ℕ) → AreAlike nodes i j
         → partner_at (view_at nodes i) w k ≡ partner_at (view_at nodes j) w k }
     ensures new_partners { (nodes : List PlainNode) (i j : ℕ) (v : PlainView) (k : ℕ) → AreAlike nodes i j
@@ -40,7 +44,8 @@ pub fn alike_nodes_break_the_same_rules()
 
 /// Given classes that alike nodes share, alike nodes look the same, with each node that a part names replaced by its class.
 pub fn alike_nodes_look_the_same()
-    ensures { (nodes : List PlainNode) (class : ℕ → ℕ) → IsGraph nodes → KeepsAlike nodes class → (i j : ℕ) → AreAlike nodes i j
+    ensures { (nodes : List PlainNode) (class : ℕ → ℕ) → IsGraph nodes → KeepsAlike nodes class → (i j : ℕ)
+        → AreAlike nodes i j
         → look_of class (node_at nodes i) ≡ look_of class (node_at nodes j) }
 {}
 

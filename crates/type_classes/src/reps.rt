@@ -44,7 +44,8 @@ fn least_nodes<Ix: Index>(
     requires blocks { AreBlocks blocks.now }
     requires len { len_of blocks.now ≡ length graph.now }
     ensures nodes { IfOk result (λ list. AreOfClasses (length graph.now) (count_of blocks.now) (class_in blocks.now) list.items) }
-    ensures least { IfOk result (λ list. (x : ℕ) → x < length graph.now → entry_at graph.now (at list.items (class_in blocks.now x)) ≤ entry_at graph.now x) }
+    ensures least { IfOk result (λ list. (x : ℕ) → x < length graph.now
+        → entry_at graph.now (at list.items (class_in blocks.now x)) ≤ entry_at graph.now x) }
     ensures named { IfErr result (λ e. e ≡ Allocation) }
 {
     let mut list = first_nodes(alloc, blocks)?;

@@ -23,8 +23,10 @@ fn number_of(
     fresh: usize,
 ) -> Result<usize, NoMemory>
     ensures number { IfOk result (λ number. number_in numbers.new spelling.now ≡ Some number) }
-    ensures kept { OnOk result ((key : Spelling) (n : ℕ) → number_in numbers.old key ≡ Some n → number_in numbers.new key ≡ Some n) }
-    ensures fresh { OnOk result ((key : Spelling) (n : ℕ) → number_in numbers.new key ≡ Some n → (number_in numbers.old key ≡ Some n) ⊎ (AreOneSpelling key spelling.now × (n ≡ fresh))) }
+    ensures kept { OnOk result ((key : Spelling) (n : ℕ) → number_in numbers.old key ≡ Some n
+        → number_in numbers.new key ≡ Some n) }
+    ensures fresh { OnOk result ((key : Spelling) (n : ℕ) → number_in numbers.new key ≡ Some n
+        → (number_in numbers.old key ≡ Some n) ⊎ (AreOneSpelling key spelling.now × (n ≡ fresh))) }
     ensures named { IfErr result (λ e. e ≡ Allocation) }
 {
     match numbers.get(spelling) {
@@ -63,8 +65,10 @@ pub fn shape_pairs<Ix: Index>(
     graph: &Graph<Ix>,
 ) -> Result<Vec<(usize, usize)>, NoMemory>
     ensures rising { IfOk result (λ pairs. IsNonDecreasingBy key_of pairs.items) }
-    ensures numbers { IfOk result (λ pairs. (i : ℕ) → i < length pairs.items → number_at pairs.items i < length graph.now) }
-    ensures shapes { IfOk result (λ pairs. (x y : ℕ) → x < length graph.now → y < length graph.now → HaveSameKeys pairs.items x y ↔ (shape_of (node_at graph.now x) ≡ shape_of (node_at graph.now y))) }
+    ensures numbers { IfOk result (λ pairs. (i : ℕ) → i < length pairs.items
+        → number_at pairs.items i < length graph.now) }
+    ensures shapes { IfOk result (λ pairs. (x y : ℕ) → x < length graph.now → y < length graph.now
+        → HaveSameKeys pairs.items x y ↔ (shape_of (node_at graph.now x) ≡ shape_of (node_at graph.now y))) }
     ensures named { IfErr result (λ e. e ≡ Allocation) }
 {
     let mut pairs = numbered(alloc, graph)?;

@@ -203,7 +203,8 @@ fn push_enumerator(into: &mut Vec<u64>, letters: usize, value: u64) -> Result<()
 
 #[tactic(auto, unfolding(crate::specs::Shapes::spelled_part))]
 fn push_part<Ix: Index>(into: &mut Vec<u64>, part: &Part<Ix>) -> Result<(), NoMemory>
-    ensures appended { OnOk result (into.new.items ≡ into.old.items ++ spelled_part (plain_part Ix.number_of part.now)) }
+    ensures appended { OnOk result (into.new.items
+        ≡ into.old.items ++ spelled_part (plain_part Ix.number_of part.now)) }
     ensures named { IfErr result (λ e. e ≡ Allocation) }
 {
     match part {
@@ -222,7 +223,8 @@ fn push_part<Ix: Index>(into: &mut Vec<u64>, part: &Part<Ix>) -> Result<(), NoMe
 }
 
 fn push_parts<Ix: Index>(into: &mut Vec<u64>, parts: &[Part<Ix>]) -> Result<(), NoMemory>
-    ensures appended { OnOk result (into.new.items ≡ into.old.items ++ spelled_list spelled_part (map (plain_part Ix.number_of) parts.now)) }
+    ensures appended { OnOk result (into.new.items
+        ≡ into.old.items ++ spelled_list spelled_part (map (plain_part Ix.number_of) parts.now)) }
     ensures named { IfErr result (λ e. e ≡ Allocation) }
 {
     into.push(parts.len() as u64)?;
@@ -240,7 +242,8 @@ fn push_label(into: &mut Vec<u64>, label: &Label) -> Result<(), NoMemory>
 }
 
 fn push_labels(into: &mut Vec<u64>, labels: &[Label]) -> Result<(), NoMemory>
-    ensures appended { OnOk result (into.new.items ≡ into.old.items ++ spelled_list spelled_label (map plain_label labels.now)) }
+    ensures appended { OnOk result (into.new.items
+        ≡ into.old.items ++ spelled_list spelled_label (map plain_label labels.now)) }
     ensures named { IfErr result (λ e. e ≡ Allocation) }
 {
     into.push(labels.len() as u64)?;
@@ -290,7 +293,8 @@ fn push_view<Ix: Index>(into: &mut Vec<u64>, view: &View<Ix>) -> Result<(), NoMe
 
 // The letters of labels.
 fn push_label_letters(into: &mut Vec<u8>, labels: &[Label]) -> Result<(), NoMemory>
-    ensures appended { OnOk result (into.new.items ≡ into.old.items ++ flat_map letters_of_label (map plain_label labels.now)) }
+    ensures appended { OnOk result (into.new.items
+        ≡ into.old.items ++ flat_map letters_of_label (map plain_label labels.now)) }
     ensures named { IfErr result (λ e. e ≡ Allocation) }
 {
     'labels: for i in 0..labels.len() {
@@ -313,7 +317,8 @@ fn letters_of_part<'a, Ix: Index>(part: &Part<'a, Ix>) -> &'a [u8]
 
 // The letters of parts.
 fn push_part_letters<Ix: Index>(into: &mut Vec<u8>, parts: &[Part<Ix>]) -> Result<(), NoMemory>
-    ensures appended { OnOk result (into.new.items ≡ into.old.items ++ flat_map shapes_spec.letters_of_part (map (plain_part Ix.number_of) parts.now)) }
+    ensures appended { OnOk result (into.new.items
+        ≡ into.old.items ++ flat_map shapes_spec.letters_of_part (map (plain_part Ix.number_of) parts.now)) }
     ensures named { IfErr result (λ e. e ≡ Allocation) }
 {
     'parts: for i in 0..parts.len() {
@@ -330,7 +335,8 @@ fn push_letters<Ix: Index>(
     labels: &[Label],
     view: &View<Ix>,
 ) -> Result<(), NoMemory>
-    ensures appended { OnOk result (into.new.items ≡ into.old.items ++ letters_of (record { labels = map plain_label labels.now; view = view.now })) }
+    ensures appended { OnOk result (into.new.items
+        ≡ into.old.items ++ letters_of (record { labels = map plain_label labels.now; view = view.now })) }
     ensures named { IfErr result (λ e. e ≡ Allocation) }
 {
     push_label_letters(into, labels)?;

@@ -1,4 +1,4 @@
--- The limits on a graph of types: what each counts, and how much it allows for a file with so many bytes.
+-- The limits on a graph of types: what each counts, and how much it allows for a file of this size in bytes.
 use Rattle.std.specs.Prelude.{◌≡◌, ◌<◌, ◌≤◌, ℕ, ◌⊎◌, List, length, sum_by}
 use Rattle.abi_base.specs.declared.limit.Limit.{Limit}
 use Rattle.abi_base.specs.declared.limit.Limit.TheVariants as limit

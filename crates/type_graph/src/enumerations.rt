@@ -75,7 +75,8 @@ pub(crate) fn good_enumerators(
     e: EntryNumber,
 ) -> Result<bool, NoMemory>
     requires { e < length dwarf.now.tree.entries }
-    ensures good { IfOk result (λ good. good ≡ list_all (shapes.is_good_enumerator dwarf.now.tree) (tagged_children dwarf.now.tree e dw_tag_enumerator)) }
+    ensures good { IfOk result (λ good. good
+        ≡ list_all (shapes.is_good_enumerator dwarf.now.tree) (tagged_children dwarf.now.tree e dw_tag_enumerator)) }
     ensures named { IfErr result (λ e. e ≡ Allocation) }
 {
     let enumerators = dwarf.tagged(alloc, e, DW_TAG_enumerator)?;

@@ -61,7 +61,8 @@ pub(crate) fn push_flat<'a>(
     requires there { Contains types.now.found.now c }
     requires last { StandsForNone types.now.dwarf.now c }
     requires low { base.depth + (facts_of types.now.dwarf.now (Some c)).rank ≤ depth_limit }
-    ensures members { OnOk result (plain_members out.new.items ≡ plain_members out.old.items ++ map (moved base.bit) (flat_of types.now.dwarf.now (Some c))) }
+    ensures members { OnOk result (plain_members out.new.items
+        ≡ plain_members out.old.items ++ map (moved base.bit) (flat_of types.now.dwarf.now (Some c))) }
     ensures named { IfErr result (λ e. e ≡ Allocation) }
 {
     laws_of_types();

@@ -60,7 +60,8 @@ fn push_label<'a>(
 ) -> Result<(), NoMemory>
     requires inside { e < length dwarf.now.tree.entries }
     requires sound { letters.old.taken ≤ letters.old.most }
-    ensures label { OnOk result (map plain_label labels.new.items ≡ map plain_label labels.old.items ++ own_label dwarf.now e) }
+    ensures label { OnOk result (map plain_label labels.new.items
+        ≡ map plain_label labels.old.items ++ own_label dwarf.now e) }
     ensures letters { OnOk result (Takes letters.old letters.new (label_letters (own_label dwarf.now e))) }
     ensures past { IfErr result (λ err. OnLimit err (PassesBy letters.old (label_letters (own_label dwarf.now e)))) }
 {

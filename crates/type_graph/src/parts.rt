@@ -66,7 +66,8 @@ fn member_parts<'a, Ix: Index>(
 ) -> Result<Vec<Part<'a, Ix>>, NoMemory>
     requires near { All (λ m. is_out_of_range m.bit ≡ false) members.now }
     requires there { All (λ m. IfSome m.to (λ e. Contains found.now e)) members.now }
-    ensures parts { IfOk result (λ parts. map (plain_part Ix.number_of) parts.items ≡ map (member_part (number_in found.now)) (plain_members members.now)) }
+    ensures parts { IfOk result (λ parts. map (plain_part Ix.number_of) parts.items
+        ≡ map (member_part (number_in found.now)) (plain_members members.now)) }
     ensures named { IfErr result (λ e. e ≡ Allocation) }
 {
     let mut parts = Vec::with_capacity(alloc, members.len())?;
@@ -94,7 +95,8 @@ fn aggregate_parts<'a, Ix: Index>(
     requires there { Contains types.now.found.now c }
     requires last { StandsForNone types.now.dwarf.now c }
     requires near { list_any begins_beyond (flat_of types.now.dwarf.now (Some c)) ≡ false }
-    ensures parts { IfOk result (λ parts. map (plain_part Ix.number_of) parts.items ≡ map (member_part (number_in types.now.found.now)) (flat_of types.now.dwarf.now (Some c))) }
+    ensures parts { IfOk result (λ parts. map (plain_part Ix.number_of) parts.items
+        ≡ map (member_part (number_in types.now.found.now)) (flat_of types.now.dwarf.now (Some c))) }
     ensures named { IfErr result (λ e. e ≡ Allocation) }
 {
     laws_of_types();
@@ -115,7 +117,8 @@ fn function_parts<'a, Ix: Index>(
     requires leads { AreTypeReferences types.now.dwarf.now.tree types.now.found.now types.now.leads.now }
     requires at { slice_get types.now.found.now number ≡ Some c }
     requires role { references.role_of types.now.dwarf.now.tree c ≡ role.Function }
-    ensures parts { IfOk result (λ parts. map (plain_part Ix.number_of) parts.items ≡ Outcome (number_in types.now.found.now (references.type_of types.now.dwarf.now.tree c)) ∷ map (param_part (number_in types.now.found.now) types.now.dwarf.now.tree) (references.parts_of types.now.dwarf.now.tree c)) }
+    ensures parts { IfOk result (λ parts. map (plain_part Ix.number_of) parts.items
+        ≡ Outcome (number_in types.now.found.now (references.type_of types.now.dwarf.now.tree c)) ∷ map (param_part (number_in types.now.found.now) types.now.dwarf.now.tree) (references.parts_of types.now.dwarf.now.tree c)) }
     ensures named { IfErr result (λ e. e ≡ Allocation) }
 {
     let params = parts_at(types.dwarf, types.found, types.leads, number, c);
@@ -157,7 +160,8 @@ fn enumerator_parts<'a, Ix: Index>(
     c: EntryNumber,
 ) -> Result<Vec<Part<'a, Ix>>, NoMemory>
     requires { c < length dwarf.now.tree.entries }
-    ensures parts { IfOk result (λ parts. map (plain_part Ix.number_of) parts.items ≡ map (enumerator_part dwarf.now) (views.enumerators_of dwarf.now.tree c)) }
+    ensures parts { IfOk result (λ parts. map (plain_part Ix.number_of) parts.items
+        ≡ map (enumerator_part dwarf.now) (views.enumerators_of dwarf.now.tree c)) }
     ensures named { IfErr result (λ e. e ≡ Allocation) }
 {
     let enumerators = enumerators_of(alloc, dwarf, c)?;
@@ -202,7 +206,8 @@ pub(crate) fn parts_of_peeled<'a, Ix: Index>(
     requires role { role ≡ references.role_of types.now.dwarf.now.tree c }
     requires last { StandsForNone types.now.dwarf.now c }
     requires near { list_any begins_beyond (flat_of types.now.dwarf.now (Some c)) ≡ false }
-    ensures parts { IfOk result (λ parts. parts ≡ parts_under (references.role_of types.now.dwarf.now.tree c) (number_in types.now.found.now) types.now.dwarf.now c) }
+    ensures parts { IfOk result (λ parts. parts
+        ≡ parts_under (references.role_of types.now.dwarf.now.tree c) (number_in types.now.found.now) types.now.dwarf.now c) }
     ensures named { IfErr result (λ e. e ≡ Allocation) }
 {
     match role {

@@ -29,7 +29,8 @@ fn share_from<'a, Ix: Index>(
 ) -> Result<(), NoMemory>
     requires from { from < length nodes.old.items }
     requires to { to < length nodes.old.items }
-    ensures nodes { OnOk result (nodes.new.items ≡ set nodes.old.items to (with_parts (node_at nodes.old.items to) (node_at nodes.old.items from).view.parts)) }
+    ensures nodes { OnOk result (nodes.new.items
+        ≡ set nodes.old.items to (with_parts (node_at nodes.old.items to) (node_at nodes.old.items from).view.parts)) }
     ensures named { IfErr result (λ e. e ≡ Allocation) }
 {
     let parts = nodes[from].view.parts.shared()?;

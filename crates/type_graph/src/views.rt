@@ -135,7 +135,8 @@ fn view_of_peeled<'a, Ix: Index>(
     requires there { Contains types.now.found.now c }
     requires last { StandsForNone types.now.dwarf.now c }
     requires near { list_any begins_beyond (flat_of types.now.dwarf.now (Some c)) ≡ false }
-    ensures view { IfOk result (λ view. view ≡ first_view other (core_view (number_in types.now.found.now) types.now.dwarf.now align (Some c))) }
+    ensures view { IfOk result (λ view. view
+        ≡ first_view other (core_view (number_in types.now.found.now) types.now.dwarf.now align (Some c))) }
     ensures named { IfErr result (λ e. e ≡ Allocation) }
 {
     let dwarf = types.dwarf;
@@ -187,7 +188,8 @@ pub(crate) fn view<'a, Ix: Index>(
     requires own { own.now ≡ summary_of (facts_of types.now.dwarf.now ty) }
     requires there { IfSome ty (λ e. Contains types.now.found.now e) }
     requires fits { (e : ℕ) → Contains types.now.found.now e → is_too_large types.now.dwarf.now e ≡ false }
-    ensures view { IfOk result (λ view. view ≡ first_view (sharing.is_other (core_of types.now.dwarf.now ty) ty) (view_by (number_in types.now.found.now) types.now.dwarf.now ty)) }
+    ensures view { IfOk result (λ view. view
+        ≡ first_view (sharing.is_other (core_of types.now.dwarf.now ty) ty) (view_by (number_in types.now.found.now) types.now.dwarf.now ty)) }
     ensures named { IfErr result (λ e. e ≡ Allocation) }
 {
     laws_of_types();

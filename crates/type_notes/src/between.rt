@@ -35,7 +35,8 @@ fn push_entry_changes(
     types: &TypePair,
 ) -> Result<(), NoMemory>
     requires { AreNodes types.now }
-    ensures { OnOk result (list.new ≡ list.old ++ entry_changes dwarfs.now.old.now dwarfs.now.new.now (chains.core_at dwarfs.now.old.now.tree (old_node types.now).entry) (chains.core_at dwarfs.now.new.now.tree (new_node types.now).entry)) }
+    ensures { OnOk result (list.new
+        ≡ list.old ++ entry_changes dwarfs.now.old.now dwarfs.now.new.now (chains.core_at dwarfs.now.old.now.tree (old_node types.now).entry) (chains.core_at dwarfs.now.new.now.tree (new_node types.now).entry)) }
 {
     let old = core_at(
         dwarfs.old,
@@ -67,7 +68,8 @@ fn push_object_entry_changes(
     types: &TypePair,
 ) -> Result<(), NoMemory>
     requires { AreNodes types.now }
-    ensures { OnOk result (list.new ≡ list.old ++ object_entry_changes dwarfs.now.old.now dwarfs.now.new.now (entry_of dwarfs.now.old.now.tree (old_node types.now).entry) (entry_of dwarfs.now.new.now.tree (new_node types.now).entry)) }
+    ensures { OnOk result (list.new
+        ≡ list.old ++ object_entry_changes dwarfs.now.old.now dwarfs.now.new.now (entry_of dwarfs.now.old.now.tree (old_node types.now).entry) (entry_of dwarfs.now.new.now.tree (new_node types.now).entry)) }
 {
     let old = dwarfs
         .old
@@ -96,7 +98,8 @@ fn push_view_changes(
     types: &TypePair,
 ) -> Result<(), NoMemory>
     requires { AreNodes types.now }
-    ensures { OnOk result (list.new ≡ list.old ++ view_changes (old_nodes types.now) (new_nodes types.now) (old_view types.now) (new_view types.now)) }
+    ensures { OnOk result (list.new
+        ≡ list.old ++ view_changes (old_nodes types.now) (new_nodes types.now) (old_view types.now) (new_view types.now)) }
 {
     let old = types.old_graph.view(types.old);
     let new = types.new_graph.view(types.new);
@@ -111,7 +114,8 @@ fn push_node_changes(
     types: &TypePair,
 ) -> Result<(), NoMemory>
     requires { AreNodes types.now }
-    ensures { OnOk result (list.new ≡ list.old ++ node_changes (old_nodes types.now) (new_nodes types.now) types.now.old types.now.new) }
+    ensures { OnOk result (list.new
+        ≡ list.old ++ node_changes (old_nodes types.now) (new_nodes types.now) types.now.old types.now.new) }
 {
     push_found(list, name_change(alloc, types)?)?;
     push_found(list, packing_change(alloc, types)?)
@@ -128,7 +132,8 @@ pub fn push_differences(
     types: &TypePair,
 ) -> Result<(), NoMemory>
     requires { AreNodes types.now }
-    ensures { OnOk result (list.new ≡ list.old ++ differences dwarfs.now.old.now dwarfs.now.new.now (old_nodes types.now) (new_nodes types.now) types.now.old types.now.new) }
+    ensures { OnOk result (list.new
+        ≡ list.old ++ differences dwarfs.now.old.now dwarfs.now.new.now (old_nodes types.now) (new_nodes types.now) types.now.old types.now.new) }
 {
     push_entry_changes(alloc, list, dwarfs, types)?;
     push_object_entry_changes(alloc, list, dwarfs, types)?;

@@ -83,7 +83,8 @@ fn push_name_or_size(
     e: EntryNumber,
 ) -> Result<(), AllocError>
     requires { e < length dwarf.now.tree.entries }
-    ensures { OnOk result (string_bytes text.new ≡ string_bytes text.old ++ spec.name_or_size dwarf.now.tree e (names.name_of dwarf.now e)) }
+    ensures { OnOk result (string_bytes text.new
+        ≡ string_bytes text.old ++ spec.name_or_size dwarf.now.tree e (names.name_of dwarf.now e)) }
 {
     match dwarf.name_of(e) {
         Some(name) => push_shown(alloc, text, name),
@@ -162,7 +163,8 @@ fn push_type(
     from: Option<EntryNumber>,
 ) -> Result<(), NoMemory>
     requires { IfSome from (λ e. e < length dwarf.now.tree.entries) }
-    ensures { OnOk result (string_bytes text.new ≡ string_bytes text.old ++ spec.type_text dwarf.now (depth_limit + 1) from) }
+    ensures { OnOk result (string_bytes text.new
+        ≡ string_bytes text.old ++ spec.type_text dwarf.now (depth_limit + 1) from) }
 {
     let mut at = from;
     'chain: for passed in 0..ENTRIES {

@@ -44,7 +44,8 @@ fn taken<'a>(
     name: &'a [u8],
 ) -> List<EntryNumber>
     ensures list { result ≡ numbers_under numbers.old name.now }
-    ensures others { (q : List ℕ) → numbers_under numbers.new q ≡ (if bytes_eq name.now q then [] else numbers_under numbers.old q) }
+    ensures others { (q : List ℕ) → numbers_under numbers.new q
+        ≡ (if bytes_eq name.now q then [] else numbers_under numbers.old q) }
 {
     match numbers.remove(name) {
         Some(list) => list,
@@ -59,7 +60,8 @@ fn keep<'a>(
     name: &'a [u8],
     number: EntryNumber,
 ) -> Result<(), NoMemory>
-    ensures { OnOk result ((q : List ℕ) → numbers_under numbers.new q ≡ numbers_under numbers.old q ++ (if bytes_eq name.now q then number ∷ [] else [])) }
+    ensures { OnOk result ((q : List ℕ) → numbers_under numbers.new q
+        ≡ numbers_under numbers.old q ++ (if bytes_eq name.now q then number ∷ [] else [])) }
 {
     let mut list = taken(alloc, numbers, name);
     list.push(number)?;
@@ -77,7 +79,8 @@ fn keep_definition<'a>(
     room: &mut NoteRoom,
 ) -> Result<(), NoMemory>
     requires { e < length dwarf.now.tree.entries }
-    ensures { OnOk result ((q : List ℕ) → numbers_under numbers.new q ≡ numbers_under numbers.old q ++ (if spec.defines dwarf.now q e then e ∷ [] else [])) }
+    ensures { OnOk result ((q : List ℕ) → numbers_under numbers.new q
+        ≡ numbers_under numbers.old q ++ (if spec.defines dwarf.now q e then e ∷ [] else [])) }
 {
     if dwarf.is_declaration(e) {
         return Ok(());
@@ -99,7 +102,8 @@ fn keep_definitions<'a>(
     room: &mut NoteRoom,
 ) -> Result<(), NoMemory>
     requires { All (λ e. e < length dwarf.now.tree.entries) entries.now }
-    ensures { OnOk result ((q : List ℕ) → numbers_under numbers.new q ≡ numbers_under numbers.old q ++ filter (spec.defines dwarf.now q) entries.now) }
+    ensures { OnOk result ((q : List ℕ) → numbers_under numbers.new q
+        ≡ numbers_under numbers.old q ++ filter (spec.defines dwarf.now q) entries.now) }
 {
     for k in 0..entries.len() {
         let entry = entries[k];

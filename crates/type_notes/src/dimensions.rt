@@ -41,7 +41,8 @@ fn push_dimensions(
     subranges: &[EntryNumber],
 ) -> Result<(), AllocError>
     requires { All (λ s. s < length dwarf.now.tree.entries) subranges.now }
-    ensures { OnOk result (string_bytes text.new ≡ string_bytes text.old ++ flat_map (λ s. dimension_text (spec.dimension_of dwarf.now.tree s)) subranges.now) }
+    ensures { OnOk result (string_bytes text.new
+        ≡ string_bytes text.old ++ flat_map (λ s. dimension_text (spec.dimension_of dwarf.now.tree s)) subranges.now) }
 {
     for k in 0..subranges.len() {
         let subrange = subranges[k];

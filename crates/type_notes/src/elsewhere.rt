@@ -42,7 +42,8 @@ fn part_change(
 ) -> Result<Option<Difference>, NoMemory>
     requires old { All (λ m. m < length pair.now.old_dwarf.now.tree.entries) old.now }
     requires new { All (λ m. m < length pair.now.new_dwarf.now.tree.entries) new.now }
-    ensures { IfOk result (λ found. found ≡ spec.part_change pair.now.old_dwarf.now pair.now.new_dwarf.now old.now new.now place) }
+    ensures { IfOk result (λ found. found
+        ≡ spec.part_change pair.now.old_dwarf.now pair.now.new_dwarf.now old.now new.now place) }
 {
     let was = part_or_none(alloc, pair.old_dwarf, old, place)?;
     let is = part_or_none(alloc, pair.new_dwarf, new, place)?;
@@ -58,7 +59,8 @@ fn first_part_change(
 ) -> Result<Option<Difference>, NoMemory>
     requires old { All (λ m. m < length pair.now.old_dwarf.now.tree.entries) old.now }
     requires new { All (λ m. m < length pair.now.new_dwarf.now.tree.entries) new.now }
-    ensures { IfOk result (λ found. found ≡ spec.first_part_change pair.now.old_dwarf.now pair.now.new_dwarf.now old.now new.now) }
+    ensures { IfOk result (λ found. found
+        ≡ spec.first_part_change pair.now.old_dwarf.now pair.now.new_dwarf.now old.now new.now) }
 {
     for place in 0..old.len().max(new.len()) {
         let found = part_change(alloc, pair, old, new, place)?;
@@ -72,7 +74,8 @@ fn first_part_change(
 // The difference between the sizes of two definitions.
 fn size_change(alloc: Global, pair: &EntryPair) -> Result<Option<Difference>, NoMemory>
     requires { AreThere (plain pair.now) }
-    ensures { IfOk result (λ found. found ≡ spec.size_change pair.now.old_dwarf.now pair.now.new_dwarf.now pair.now.old pair.now.new) }
+    ensures { IfOk result (λ found. found
+        ≡ spec.size_change pair.now.old_dwarf.now pair.now.new_dwarf.now pair.now.old pair.now.new) }
 {
     let was = size_text(alloc, pair.old_dwarf, pair.old)?;
     let is = size_text(alloc, pair.new_dwarf, pair.new)?;
@@ -82,7 +85,8 @@ fn size_change(alloc: Global, pair: &EntryPair) -> Result<Option<Difference>, No
 // The difference between the first members or enumerators of two definitions that differ.
 fn parts_change(alloc: Global, pair: &EntryPair) -> Result<Option<Difference>, NoMemory>
     requires { AreThere (plain pair.now) }
-    ensures { IfOk result (λ found. found ≡ spec.parts_change pair.now.old_dwarf.now pair.now.new_dwarf.now pair.now.old pair.now.new) }
+    ensures { IfOk result (λ found. found
+        ≡ spec.parts_change pair.now.old_dwarf.now pair.now.new_dwarf.now pair.now.old pair.now.new) }
 {
     let old = parts_of(alloc, pair.old_dwarf, pair.old)?;
     let new = parts_of(alloc, pair.new_dwarf, pair.new)?;
@@ -96,7 +100,8 @@ pub(crate) fn definition_change(
     pair: &EntryPair,
 ) -> Result<Option<Difference>, NoMemory>
     requires { AreThere (plain pair.now) }
-    ensures { IfOk result (λ found. found ≡ spec.definition_change pair.now.old_dwarf.now pair.now.new_dwarf.now pair.now.old pair.now.new) }
+    ensures { IfOk result (λ found. found
+        ≡ spec.definition_change pair.now.old_dwarf.now pair.now.new_dwarf.now pair.now.old pair.now.new) }
 {
     match size_change(alloc, pair)? {
         Some(found) => Ok(Some(found)),
@@ -156,7 +161,8 @@ fn change_at(
     new_place: usize,
 ) -> Result<Option<Difference>, NoMemory>
     requires { AreKin kin.now }
-    ensures { IfOk result (λ found. found ≡ spec.change_between kin.now.old_dwarf.now kin.now.new_dwarf.now (slice_get kin.now.old.now old_place) (slice_get kin.now.new.now new_place)) }
+    ensures { IfOk result (λ found. found
+        ≡ spec.change_between kin.now.old_dwarf.now kin.now.new_dwarf.now (slice_get kin.now.old.now old_place) (slice_get kin.now.new.now new_place)) }
 {
     let old = entry_at(kin.old_dwarf, kin.old, old_place);
     let new = entry_at(kin.new_dwarf, kin.new, new_place);
@@ -182,7 +188,8 @@ fn change_by(
     new: &[List<u8>],
 ) -> Result<Option<Difference>, NoMemory>
     requires { AreKin kin.now }
-    ensures { IfOk result (λ found. found ≡ spec.change_from kin.now.old_dwarf.now kin.now.new_dwarf.now kin.now.old.now kin.now.new.now (spec.first_lacking old.now new.now) (spec.first_lacking new.now old.now)) }
+    ensures { IfOk result (λ found. found
+        ≡ spec.change_from kin.now.old_dwarf.now kin.now.new_dwarf.now kin.now.old.now kin.now.new.now (spec.first_lacking old.now new.now) (spec.first_lacking new.now old.now)) }
 {
     let Some(place) = first_lacking(alloc, old, new)? else {
         return Ok(None);
@@ -196,7 +203,8 @@ fn change_by(
 #[tactic(auto, unfolding(crate::specs::DefinedElsewhere::kin_change))]
 pub(crate) fn kin_change(alloc: Global, kin: &Kin) -> Result<Option<Difference>, NoMemory>
     requires { AreKin kin.now }
-    ensures { IfOk result (λ found. found ≡ spec.kin_change kin.now.old_dwarf.now kin.now.new_dwarf.now kin.now.old.now kin.now.new.now) }
+    ensures { IfOk result (λ found. found
+        ≡ spec.kin_change kin.now.old_dwarf.now kin.now.new_dwarf.now kin.now.old.now kin.now.new.now) }
 {
     let old = texts_of(alloc, kin.old_dwarf, kin.old)?;
     let new = texts_of(alloc, kin.new_dwarf, kin.new)?;

@@ -9,7 +9,8 @@ ghost use Rattle.type_notes.specs.Unions.{union_change};
 
 /// A type does not differ from itself. The only possible note on it is that it is a union without members.
 pub fn a_type_does_not_differ_from_itself()
-    ensures { (d : PlainDwarf) (nodes : List PlainNode) (i : ℕ) → differences d d nodes nodes i i ≡ option_to_list (union_change (view_at nodes i) (view_at nodes i)) }
+    ensures { (d : PlainDwarf) (nodes : List PlainNode) (i : ℕ)
+        → differences d d nodes nodes i i ≡ option_to_list (union_change (view_at nodes i) (view_at nodes i)) }
 {}
 
 /// A definition does not differ from itself.

@@ -50,7 +50,8 @@ fn push_all(
     parameters: &[EntryNumber],
 ) -> Result<(), AllocError>
     requires { All (λ p. p < length dwarf.now.tree.entries) parameters.now }
-    ensures { OnOk result (string_bytes text.new ≡ string_bytes text.old ++ flat_map (named_behind dwarf.now) parameters.now) }
+    ensures { OnOk result (string_bytes text.new
+        ≡ string_bytes text.old ++ flat_map (named_behind dwarf.now) parameters.now) }
 {
     for k in 0..parameters.len() {
         let parameter = parameters[k];

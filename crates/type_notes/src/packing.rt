@@ -117,7 +117,8 @@ fn packing_text<Ix: Index>(
 #[tactic(auto, unfolding(crate::specs::Packing::packing_change))]
 pub(crate) fn packing_change(alloc: Global, pair: &TypePair) -> Result<Option<Difference>, NoMemory>
     requires { AreNodes pair.now }
-    ensures { IfOk result (λ found. found ≡ spec.packing_change (old_nodes pair.now) (new_nodes pair.now) pair.now.old pair.now.new) }
+    ensures { IfOk result (λ found. found
+        ≡ spec.packing_change (old_nodes pair.now) (new_nodes pair.now) pair.now.old pair.now.new) }
 {
     let was = packing_text(alloc, pair.old_graph, pair.old, pair.packed.old)?;
     let is = packing_text(alloc, pair.new_graph, pair.new, pair.packed.new)?;

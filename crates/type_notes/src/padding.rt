@@ -133,7 +133,8 @@ fn push_part_changes(
 ) -> Result<(), NoMemory>
     requires nodes { AreNodes pair.now }
     requires part { k < length (new_view pair.now).parts }
-    ensures { OnOk result (list.new ≡ list.old ++ spec.part_changes (old_nodes pair.now) (new_nodes pair.now) (old_view pair.now) (part_at (new_view pair.now) k)) }
+    ensures { OnOk result (list.new
+        ≡ list.old ++ spec.part_changes (old_nodes pair.now) (new_nodes pair.now) (old_view pair.now) (part_at (new_view pair.now) k)) }
 {
     if !fills(pair, k) {
         return Ok(());
@@ -149,7 +150,8 @@ fn push_member_changes(
     pair: &TypePair,
 ) -> Result<(), NoMemory>
     requires { AreNodes pair.now }
-    ensures { OnOk result (list.new ≡ list.old ++ flat_map (spec.part_changes (old_nodes pair.now) (new_nodes pair.now) (old_view pair.now)) (new_view pair.now).parts) }
+    ensures { OnOk result (list.new
+        ≡ list.old ++ flat_map (spec.part_changes (old_nodes pair.now) (new_nodes pair.now) (old_view pair.now)) (new_view pair.now).parts) }
 {
     for k in 0..pair.new_graph.view(pair.new).parts_len() {
         push_part_changes(alloc, list, pair, k)?;
@@ -172,7 +174,8 @@ pub(crate) fn push_padding_changes(
     pair: &TypePair,
 ) -> Result<(), NoMemory>
     requires { AreNodes pair.now }
-    ensures { OnOk result (list.new ≡ list.old ++ padding_changes (old_nodes pair.now) (new_nodes pair.now) (old_view pair.now) (new_view pair.now)) }
+    ensures { OnOk result (list.new
+        ≡ list.old ++ padding_changes (old_nodes pair.now) (new_nodes pair.now) (old_view pair.now) (new_view pair.now)) }
 {
     if !is_structure(pair.old_graph.view(pair.old)) {
         return Ok(());

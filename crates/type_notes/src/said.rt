@@ -92,7 +92,8 @@ fn qualifier(
     word: &str,
 ) -> Result<Vec<u8>, NoMemory>
     requires { e < length dwarf.now.tree.entries }
-    ensures { IfOk result (λ text. text.items ≡ texts_spec.word_if (chains.has_qualifier dwarf.now.tree tag e) word.now) }
+    ensures { IfOk result (λ text. text.items
+        ≡ texts_spec.word_if (chains.has_qualifier dwarf.now.tree tag e) word.now) }
 {
     word_if(alloc, has_qualifier(dwarf, e, tag), word)
 }

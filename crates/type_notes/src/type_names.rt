@@ -48,7 +48,8 @@ fn push_label(alloc: Global, text: &mut String, label: &Label) -> Result<(), All
 
 // Appends names, each with the separator in front.
 fn push_labels(alloc: Global, text: &mut String, labels: &[Label]) -> Result<(), AllocError>
-    ensures { OnOk result (string_bytes text.new ≡ string_bytes text.old ++ flat_map label_behind (map plain_label labels.now)) }
+    ensures { OnOk result (string_bytes text.new
+        ≡ string_bytes text.old ++ flat_map label_behind (map plain_label labels.now)) }
 {
     for label in labels {
         push_label(alloc, text, label)?;

@@ -193,7 +193,8 @@ fn push_under_path(
 ) -> Result<(), NoMemory>
     requires readable { IsReadable (sides_of ground.now.pair) place.0.now place.1 }
     requires earlier { AreEarlier place.0.now }
-    ensures { OnOk result (notes.new ≡ notes.old ++ map (noted_at (sides_of ground.now.pair) place.entry.0.now place.entry.1) found.now) }
+    ensures { OnOk result (notes.new
+        ≡ notes.old ++ map (noted_at (sides_of ground.now.pair) place.entry.0.now place.entry.1) found.now) }
 {
     parents_spell_paths();
     let (visits, number) = place;
@@ -217,7 +218,8 @@ struct Walk<'w, 'x, 'o, 'n, 'd, 'e> {
 fn change_of_kin(kin: &Kin, room: &mut NoteRoom) -> Result<Option<Difference>, NoMemory>
     requires old { All (λ e. e < length kin.now.old_dwarf.now.tree.entries) kin.now.old.now }
     requires new { All (λ e. e < length kin.now.new_dwarf.now.tree.entries) kin.now.new.now }
-    ensures { IfOk result (λ found. found ≡ elsewhere_spec.kin_change kin.now.old_dwarf.now kin.now.new_dwarf.now kin.now.old.now kin.now.new.now) }
+    ensures { IfOk result (λ found. found
+        ≡ elsewhere_spec.kin_change kin.now.old_dwarf.now kin.now.new_dwarf.now kin.now.old.now kin.now.new.now) }
 {
     room.take_kin(kin)?;
     kin_change(room.alloc, kin)
@@ -258,8 +260,10 @@ fn push_definitions(
     requires definitions { AreOfBoth walk.now.ground.now.old_dwarf.now walk.now.ground.now.new_dwarf.now walk.now.definitions.now }
     requires old { IfSome found (λ found. found.0 < length walk.now.ground.now.old_dwarf.now.tree.entries) }
     requires new { IfSome found (λ found. found.1 < length walk.now.ground.now.new_dwarf.now.tree.entries) }
-    ensures list { OnOk result (list.new ≡ list.old ++ change_unless (contains nat_eq compared.old) (noted_pair walk.now.ground.now) found) }
-    ensures compared { OnOk result ((a : ℕ) → contains nat_eq compared.new a ≡ (contains nat_eq compared.old a || is_of a found)) }
+    ensures list { OnOk result (list.new
+        ≡ list.old ++ change_unless (contains nat_eq compared.old) (noted_pair walk.now.ground.now) found) }
+    ensures compared { OnOk result ((a : ℕ) → contains nat_eq compared.new a
+        ≡ (contains nat_eq compared.old a || is_of a found)) }
 {
     let found = match found {
         Some(found) => found,
@@ -282,8 +286,10 @@ fn push_defined(
     requires definitions { AreOfBoth walk.now.ground.now.old_dwarf.now walk.now.ground.now.new_dwarf.now walk.now.definitions.now }
     requires old { visit.now.old < length walk.now.ground.now.pair.old.now.graph }
     requires new { visit.now.new < length walk.now.ground.now.pair.new.now.graph }
-    ensures list { OnOk result (list.new ≡ list.old ++ change_unless (contains nat_eq compared.old) (noted_pair walk.now.ground.now) (defined_behind (noted_pair walk.now.ground.now) visit.now)) }
-    ensures compared { OnOk result ((a : ℕ) → contains nat_eq compared.new a ≡ (contains nat_eq compared.old a || is_of a (defined_behind (noted_pair walk.now.ground.now) visit.now))) }
+    ensures list { OnOk result (list.new
+        ≡ list.old ++ change_unless (contains nat_eq compared.old) (noted_pair walk.now.ground.now) (defined_behind (noted_pair walk.now.ground.now) visit.now)) }
+    ensures compared { OnOk result ((a : ℕ) → contains nat_eq compared.new a
+        ≡ (contains nat_eq compared.old a || is_of a (defined_behind (noted_pair walk.now.ground.now) visit.now))) }
 {
     let defined = definitions_of_types(walk.ground, walk.definitions, visit);
     push_definitions(list, compared, walk, defined, room)
@@ -301,8 +307,10 @@ fn found_at(
     requires packed { ArePacked walk.now.ground.now.pair.old.now.graph walk.now.ground.now.pair.new.now.graph walk.now.packed }
     requires old { visit.now.old < length walk.now.ground.now.pair.old.now.graph }
     requires new { visit.now.new < length walk.now.ground.now.pair.new.now.graph }
-    ensures found { IfOk result (λ found. found ≡ differences_of (noted_pair walk.now.ground.now) visit.now ++ change_unless (contains nat_eq compared.old) (noted_pair walk.now.ground.now) (defined_behind (noted_pair walk.now.ground.now) visit.now)) }
-    ensures compared { OnOk result ((a : ℕ) → contains nat_eq compared.new a ≡ (contains nat_eq compared.old a || is_of a (defined_behind (noted_pair walk.now.ground.now) visit.now))) }
+    ensures found { IfOk result (λ found. found
+        ≡ differences_of (noted_pair walk.now.ground.now) visit.now ++ change_unless (contains nat_eq compared.old) (noted_pair walk.now.ground.now) (defined_behind (noted_pair walk.now.ground.now) visit.now)) }
+    ensures compared { OnOk result ((a : ℕ) → contains nat_eq compared.new a
+        ≡ (contains nat_eq compared.old a || is_of a (defined_behind (noted_pair walk.now.ground.now) visit.now))) }
 {
     room.take_visit(walk.ground, visit)?;
     let mut found = differences_at(room.alloc, walk.ground, &walk.packed, visit)?;
@@ -324,7 +332,8 @@ fn push_visit(
     requires readable { IsReadable (sides_of walk.now.ground.now.pair) walk.now.visits.now number }
     requires earlier { AreEarlier walk.now.visits.now }
     requires compared { AreCompared (noted_pair walk.now.ground.now) walk.now.visits.now number compared.old }
-    ensures notes { OnOk result (notes.new ≡ notes.old ++ notes_at (noted_pair walk.now.ground.now) walk.now.visits.now number) }
+    ensures notes { OnOk result (notes.new
+        ≡ notes.old ++ notes_at (noted_pair walk.now.ground.now) walk.now.visits.now number) }
     ensures compared { OnOk result (AreCompared (noted_pair walk.now.ground.now) walk.now.visits.now (number + 1) compared.new) }
 {
     let visit = walk.visits.visit(number);
@@ -349,7 +358,8 @@ fn notes_along(walk: &Walk, room: &mut NoteRoom) -> Result<List<Note>, NoMemory>
     requires definitions { AreOfBoth walk.now.ground.now.old_dwarf.now walk.now.ground.now.new_dwarf.now walk.now.definitions.now }
     requires packed { ArePacked walk.now.ground.now.pair.old.now.graph walk.now.ground.now.pair.new.now.graph walk.now.packed }
     requires readable { AreReadable (sides_of walk.now.ground.now.pair) walk.now.visits.now }
-    ensures { IfOk result (λ notes. notes ≡ notes_below (noted_pair walk.now.ground.now) walk.now.visits.now (length walk.now.visits.now)) }
+    ensures { IfOk result (λ notes. notes
+        ≡ notes_below (noted_pair walk.now.ground.now) walk.now.visits.now (length walk.now.visits.now)) }
 {
     let mut notes = List::new(room.alloc);
     let mut compared = HashSet::new(room.alloc);

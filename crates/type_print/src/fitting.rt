@@ -62,7 +62,9 @@ fn push_gap(
 ) -> Result<u64, NoMemory>
     requires inside { k < length members.now }
     requires fits { FitsFrom held (drop k members.now) bits }
-    ensures swept { IfOk result (λ up. (all whole : List Stand) → IsSwept all whole bits rows.old.items held (drop k members.now) → IsSwept all whole bits rows.new.items up (drop k members.now)) }
+    ensures swept { IfOk result (λ up. (all whole : List Stand)
+        → IsSwept all whole bits rows.old.items held (drop k members.now)
+        → IsSwept all whole bits rows.new.items up (drop k members.now)) }
     ensures reached { IfOk result (λ up. (member_at members.now k).bit ≤ up) }
 {
     if members[k].bit <= held {
@@ -99,7 +101,8 @@ pub fn fitting_rows(
 ) -> Result<Vec<LayoutRow>, NoMemory>
     requires order { AreInOrder members.now }
     requires fits { Fits members.now bits }
-    ensures { IfOk result (λ rows. (all : List Stand) → AreExactly (IsFittingRow members.now bits) (key_of all) rows.items) }
+    ensures { IfOk result (λ rows. (all : List Stand)
+        → AreExactly (IsFittingRow members.now bits) (key_of all) rows.items) }
 {
     let mut rows = Vec::new(alloc);
     let mut held = 0;

@@ -55,7 +55,8 @@ fn push_overlap(
 // The search never goes back: an extent that ends before a member ends before all later members too.
 pub fn overlaps(alloc: Global, members: &[Extent]) -> Result<Vec<LayoutRow>, NoMemory>
     requires { AreInOrder members.now }
-    ensures { IfOk result (λ rows. (all : List Stand) → NamesAll all members.now → AreExactly (IsOverlapRow members.now) (key_of all) rows.items) }
+    ensures { IfOk result (λ rows. (all : List Stand) → NamesAll all members.now
+        → AreExactly (IsOverlapRow members.now) (key_of all) rows.items) }
 {
     let mut rows = Vec::new(alloc);
     let mut first = 0;
@@ -79,7 +80,8 @@ fn push_outside(rows: &mut Vec<LayoutRow>, member: &Extent, bits: u64) -> Result
 /// A row for each of the ordered members that ends past the size in bits.
 pub fn outsides(alloc: Global, members: &[Extent], bits: u64) -> Result<Vec<LayoutRow>, NoMemory>
     requires { AreInOrder members.now }
-    ensures { IfOk result (λ rows. (all : List Stand) → NamesAll all members.now → AreExactly (IsOutsideRow members.now bits) (key_of all) rows.items) }
+    ensures { IfOk result (λ rows. (all : List Stand) → NamesAll all members.now
+        → AreExactly (IsOutsideRow members.now bits) (key_of all) rows.items) }
 {
     let mut rows = Vec::new(alloc);
     for member in members {

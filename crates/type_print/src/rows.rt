@@ -50,7 +50,8 @@ fn are_none(overlaps: &[LayoutRow], outsides: &[LayoutRow]) -> bool
 fn sorted_rows(alloc: Global, sorted: &[Extent], bits: u64) -> Result<Vec<LayoutRow>, NoMemory>
     requires order { AreInOrder sorted.now }
     requires named { AreNamed sorted.now }
-    ensures { IfOk result (λ rows. (members : List Stand) → AreNumbered members → IsPermutation members sorted.now → AreRows members bits rows.items) }
+    ensures { IfOk result (λ rows. (members : List Stand) → AreNumbered members → IsPermutation members sorted.now
+        → AreRows members bits rows.items) }
 {
     let overlaps = overlaps(alloc, sorted)?;
     let outsides = outsides(alloc, sorted, bits)?;

@@ -125,7 +125,8 @@ fn find_deep(
     ensures known { OnOk result (AreFacts types.now.dwarf.now types.now.found.now known.new.items) }
     ensures len { OnOk result (length known.new.items ≡ length types.now.found.now) }
     ensures first { IfOk result (λ r. IfSome r (λ e. IsFirstTooDeep types.now.dwarf.now.tree types.now.found.now e)) }
-    ensures none { IfOk result (λ r. IfNone r ((e : ℕ) → Contains types.now.found.now e → IsTooDeep types.now.dwarf.now.tree (Some e) → ⊥)) }
+    ensures none { IfOk result (λ r. IfNone r ((e : ℕ) → Contains types.now.found.now e
+        → IsTooDeep types.now.dwarf.now.tree (Some e) → ⊥)) }
     ensures named { IfErr result (λ e. e ≡ Allocation) }
 {
     let order = in_order(alloc, types.found)?;
@@ -174,7 +175,8 @@ pub fn learn_all(
     requires closed { IsClosed dwarf.now.tree found.now }
     requires leads { AreTypeReferences dwarf.now.tree found.now leads.now }
     ensures facts { IfOk result (λ facts. AreAllFacts dwarf.now found.now facts.items) }
-    ensures judged { (roots : List ℕ) → ((r : ℕ) → Contains roots r → r < length dwarf.now.tree.entries) → IsWalk dwarf.now.tree roots found.now → Judges result (depth_fault dwarf.now.tree roots) }
+    ensures judged { (roots : List ℕ) → ((r : ℕ) → Contains roots r → r < length dwarf.now.tree.entries)
+        → IsWalk dwarf.now.tree roots found.now → Judges result (depth_fault dwarf.now.tree roots) }
     ensures named { IfErr result (λ e. OnPast e (λ _. ⊥)) }
 {
     let types = FoundTypes {

@@ -162,8 +162,10 @@ pub(crate) fn member_totals_of(
     requires near { All IsSpanNear of_types.now }
     requires ranks { All (λ x. x.rank < rank) of_types.now }
     requires rank { rank ≤ depth_limit }
-    ensures align { result.align ≡ facts_spec.most (map (facts_spec.member_align dwarf.now) (zip members.now of_types.now)) }
-    ensures span { result.span ≡ facts_spec.spread (map (facts_spec.member_span dwarf.now) (zip members.now of_types.now)) }
+    ensures align { result.align
+        ≡ facts_spec.most (map (facts_spec.member_align dwarf.now) (zip members.now of_types.now)) }
+    ensures span { result.span
+        ≡ facts_spec.spread (map (facts_spec.member_span dwarf.now) (zip members.now of_types.now)) }
     ensures low { IfSome result.span (λ s. IsNear (rank + 1) s.low) }
     ensures high { IfSome result.span (λ s. IsNear (rank + 1) s.high) }
     ensures beyond { result.beyond ≡ list_any (facts_spec.member_beyond dwarf.now) (zip members.now of_types.now) }

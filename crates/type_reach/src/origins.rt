@@ -62,7 +62,8 @@ impl Origins {
         origin: Option<EntryNumber>,
         number: usize,
     ) -> Result<(), NoMemory>
-        ensures numbers { OnOk result ((b : ℕ) → number_under self.new b ≡ option_or (number_under self.old b) (if is_some_entry b origin then Some number else None)) }
+        ensures numbers { OnOk result ((b : ℕ) → number_under self.new b
+            ≡ option_or (number_under self.old b) (if is_some_entry b origin then Some number else None)) }
         ensures named { IfErr result (λ e. e ≡ Allocation) }
     {
         if let Some(body) = origin {

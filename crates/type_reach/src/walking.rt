@@ -44,7 +44,8 @@ fn add_own(
 fn add_types(dwarf: &Dwarf, met: &mut VisitedEntries, parts: &[EntryNumber]) -> Result<(), NoMemory>
     requires inside { All (λ c. c < length dwarf.now.tree.entries) parts.now }
     requires room { met.old.room ≡ length dwarf.now.tree.entries }
-    ensures entries { OnOk result (met.new.entries ≡ with_types met.old.entries (map (spec.type_of dwarf.now.tree) parts.now)) }
+    ensures entries { OnOk result (met.new.entries
+        ≡ with_types met.old.entries (map (spec.type_of dwarf.now.tree) parts.now)) }
     ensures room { OnOk result (met.new.room ≡ met.old.room) }
     ensures named { IfErr result (λ e. e ≡ Allocation) }
 {

@@ -10,7 +10,8 @@ use trial_libraries::laws::made_libraries_are_no_longer_than_inputs;
 
 /// A trial of n functions has only one text.
 pub fn a_trial_has_one_text()
-    ensures { (n : ℕ) (lines other : List ℕ) → n ≤ most_functions → IsTrialText n lines → IsTrialText n other → lines ≡ other }
+    ensures { (n : ℕ) (lines other : List ℕ) → n ≤ most_functions → IsTrialText n lines → IsTrialText n other
+        → lines ≡ other }
 {
     made_libraries_are_no_longer_than_inputs();
     a_check_has_one_text();
@@ -18,5 +19,6 @@ pub fn a_trial_has_one_text()
 
 /// A trial that has a text is stopped only if memory runs out.
 pub fn a_trial_with_a_text_has_no_fault()
-    ensures { (n : ℕ) (lines : List ℕ) (unchecked : Unchecked) → IsTrialText n lines → IsUntried n unchecked → IsOutOfMemory unchecked }
+    ensures { (n : ℕ) (lines : List ℕ) (unchecked : Unchecked) → IsTrialText n lines → IsUntried n unchecked
+        → IsOutOfMemory unchecked }
 {}

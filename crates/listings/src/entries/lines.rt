@@ -28,9 +28,11 @@ fn push_line(text: &mut String, offset: u64, depth: u32, tag: u64) -> Result<(),
 // Appends a line for each entry of a unit.
 fn push_unit(alloc: Global, text: &mut String, unit: &Unit<'_>) -> Result<(), Refusal>
     ensures judged { Judges result (entries_of (plain_unit unit.now)).end }
-    ensures lines { OnOk result (string_bytes text.new ≡ string_bytes text.old ++ flat_map entry_line (entries_of (plain_unit unit.now)).items) }
+    ensures lines { OnOk result (string_bytes text.new
+        ≡ string_bytes text.old ++ flat_map entry_line (entries_of (plain_unit unit.now)).items) }
     ensures within { OnOk result (attributes_count (plain_unit unit.now) ≤ attributes_allowed (plain_unit unit.now)) }
-    ensures past { IfErr result (λ e. OnPast e (λ l. (l ≡ Attributes) × (attributes_allowed (plain_unit unit.now) < attributes_count (plain_unit unit.now)))) }
+    ensures past { IfErr result (λ e. OnPast e (λ l. (l ≡ Attributes)
+        × (attributes_allowed (plain_unit unit.now) < attributes_count (plain_unit unit.now)))) }
 {
     let mut budget = attributes_budget(unit);
     let mut left = entries(unit);
@@ -47,7 +49,8 @@ fn push_unit(alloc: Global, text: &mut String, unit: &Unit<'_>) -> Result<(), Re
 #[tactic(auto, using(crate::proofs::entries_lemmas::Listings::section_done, crate::proofs::entries_lemmas::Listings::section_lines))]
 fn lines_of(alloc: Global, sections: &Sections<'_>) -> Result<String, Refusal>
     ensures judged { Judges result (entries_fault sections.now.info.now sections.now.abbrev.now) }
-    ensures lines { IfOk result (λ text. string_bytes text ≡ flat_map entry_line (all_entries sections.now.info.now sections.now.abbrev.now)) }
+    ensures lines { IfOk result (λ text. string_bytes text
+        ≡ flat_map entry_line (all_entries sections.now.info.now sections.now.abbrev.now)) }
     ensures within { OnOk result (HaveFewAttributes sections.now.info.now sections.now.abbrev.now) }
     ensures past { IfErr result (λ e. OnPast e (UnitsPass sections.now.info.now sections.now.abbrev.now)) }
 {

@@ -88,7 +88,8 @@ fn push_line<Ix: Index>(
     graph: &Graph<Ix>,
     export: &Export,
 ) -> Result<(), AllocError>
-    ensures { OnOk result (string_bytes text.new ≡ string_bytes text.old ++ export_line graph.now (plain_export export.now)) }
+    ensures { OnOk result (string_bytes text.new
+        ≡ string_bytes text.old ++ export_line graph.now (plain_export export.now)) }
 {
     let symbol = export.symbol;
     let kind = export.kind.word();
@@ -109,7 +110,8 @@ fn push_lines<Ix: Index>(
     budget: &mut Budget,
 ) -> Result<(), NoMemory>
     requires { budget.old.taken ≤ budget.old.most }
-    ensures lines { OnOk result (string_bytes text.new ≡ string_bytes text.old ++ flat_map (export_line graph.now) (plain_exports exports.now)) }
+    ensures lines { OnOk result (string_bytes text.new
+        ≡ string_bytes text.old ++ flat_map (export_line graph.now) (plain_exports exports.now)) }
     ensures within { OnOk result (budget.old.taken + length (flat_map (export_line graph.now) (plain_exports exports.now)) ≤ budget.old.most) }
     ensures past { IfErr result (λ e. OnLimit e (LinesPass (flat_map (export_line graph.now) (plain_exports exports.now)) budget.old)) }
 {

@@ -27,7 +27,8 @@ pub fn a_certificate_is_one()
 
 /// Where the new library may replace the old one, and alike nodes are marked alike, the checker accepts the certificate of the two.
 pub fn the_certificate_of_the_compatible_is_accepted()
-    ensures { (s : Sides) (c : PlainCert) → AreLibraries s → AreMarkedAlike (task_of s) → IsCompatible s → IsCertificateOf s c
+    ensures { (s : Sides) (c : PlainCert) → AreLibraries s → AreMarkedAlike (task_of s) → IsCompatible s
+        → IsCertificateOf s c
         → IsAccepted (record { sides = s; cert = c }) }
 {
     what_is_accepted_keeps_all();
@@ -46,7 +47,8 @@ pub fn the_certificate_of_the_compatible_is_accepted()
 
 /// The typed pairs of two libraries, with the classes of alike nodes, may be explored if nodes with equal labels are marked alike.
 pub fn typed_pairs_may_be_explored()
-    ensures { (s : Sides) (old new : PlainClasses) → old.nodes ≡ s.old.graph → new.nodes ≡ s.new.graph → AreSound old → AreCoarsest old → AreMarksOf s
+    ensures { (s : Sides) (old new : PlainClasses) → old.nodes ≡ s.old.graph → new.nodes ≡ s.new.graph → AreSound old
+        → AreCoarsest old → AreMarksOf s
         → IsScope (scope_of s old new) }
 {
     roots_are_typed_pairs();

@@ -78,7 +78,8 @@ pub fn pair_lines(
 /// For a search without a break, the lines of its visits, in the order that a certificate requires, are the pair lines of the
 /// certificate. The function does nothing.
 pub fn visits_are_pair_lines()
-    ensures { (s : Sides) (old new : PlainClasses) (visits : Sequence Visit) (lines : Sequence PairLine) → AreClassesOf s old new → IsUnbroken s old new visits
+    ensures { (s : Sides) (old new : PlainClasses) (visits : Sequence Visit) (lines : Sequence PairLine)
+        → AreClassesOf s old new → IsUnbroken s old new visits
         → IsPermutation (map (pair_line s.old.graph s.new.graph) visits) lines → IsSorted pair_cmp lines → ArePairLines (task_of s) lines }
 {
     classes_stand_by_their_least_entries();

@@ -32,7 +32,8 @@ fn push_soname_rows(
     old: Option<&[u8]>,
     new: Option<&[u8]>,
 ) -> Result<(), NoMemory>
-    ensures appended { OnOk result (rows.new ≡ rows.old ++ soname_rows (option_copied old.entry) (option_copied new.entry)) }
+    ensures appended { OnOk result (rows.new
+        ≡ rows.old ++ soname_rows (option_copied old.entry) (option_copied new.entry)) }
     ensures named { IfErr result (λ e. e ≡ Allocation) }
 {
     if same_name(old, new) {
@@ -80,7 +81,8 @@ fn push_if(
     rule: Rule,
     bound: &BoundExport,
 ) -> Result<(), NoMemory>
-    ensures appended { OnOk result (rows.new ≡ rows.old ++ row_if is_broken (export_rows_spec.export_row rule (plain_export bound.now.export.now) (plain_export bound.now.partner.now))) }
+    ensures appended { OnOk result (rows.new
+        ≡ rows.old ++ row_if is_broken (export_rows_spec.export_row rule (plain_export bound.now.export.now) (plain_export bound.now.partner.now))) }
     ensures named { IfErr result (λ e. e ≡ Allocation) }
 {
     if !is_broken {
@@ -93,7 +95,8 @@ fn push_if(
 // Adds the rows of an export that binds to another.
 #[tactic(auto, unfolding(crate::specs::reports::ExportRows::changed_rows))]
 fn push_changed(alloc: Global, rows: &mut List<Row>, bound: &BoundExport) -> Result<(), NoMemory>
-    ensures appended { OnOk result (rows.new ≡ rows.old ++ changed_rows (plain_export bound.now.export.now) (plain_export bound.now.partner.now)) }
+    ensures appended { OnOk result (rows.new
+        ≡ rows.old ++ changed_rows (plain_export bound.now.export.now) (plain_export bound.now.partner.now)) }
     ensures named { IfErr result (λ e. e ≡ Allocation) }
 {
     let [kind_breaks, size_breaks, type_breaks] = export_breaks(bound.export, bound.partner);
@@ -160,7 +163,8 @@ pub(crate) fn push_export_rows(
     requires bound { IsBinding ground.now }
     requires none { rows.old.list ≡ [] }
     requires counted { IsTaken rows.old.room.most row_size rows.old.list rows.old.room }
-    ensures appended { OnOk result (rows.new.list ≡ rows.old.list ++ export_rows_spec.export_rows (sides_of ground.now)) }
+    ensures appended { OnOk result (rows.new.list
+        ≡ rows.old.list ++ export_rows_spec.export_rows (sides_of ground.now)) }
     ensures counted { OnOk result (IsTaken rows.old.room.most row_size rows.new.list rows.new.room) }
     ensures past { IfErr result (λ e. OnLimit e (RowsPass rows.old.room.most (rows.old.list ++ export_rows_spec.export_rows (sides_of ground.now)))) }
 {

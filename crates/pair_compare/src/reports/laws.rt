@@ -32,7 +32,8 @@ use type_classes::laws::{alike_is_an_equivalence, alike_nodes_break_the_same_rul
 /// The breaks of an exploration over the classes of alike nodes, without those that repeat an earlier one about the same types, are
 /// right findings: they are true, complete, by the first paths, and in order.
 pub fn told_breaks_are_right()
-    ensures { (s : Scope) (visits : List Visit) (broken : List (ℕ × Broken)) → IsCoarse s → IsExploration s visits broken →
+    ensures { (s : Scope) (visits : List Visit) (broken : List (ℕ × Broken)) → IsCoarse s
+        → IsExploration s visits broken →
         AreRight s.task (findings_of s.task visits broken) }
 {
     rules_have_places_of_their_own();
@@ -46,7 +47,8 @@ pub fn told_breaks_are_right()
 
 /// Their rows are right rows of the two libraries.
 pub fn told_rows_are_right()
-    ensures { (s : Sides) (visits : List Visit) (broken : List (ℕ × Broken)) → IsExplored (task_of s) visits broken → AreRightRows s (type_rows s visits broken) }
+    ensures { (s : Sides) (visits : List Visit) (broken : List (ℕ × Broken)) → IsExplored (task_of s) visits broken
+        → AreRightRows s (type_rows s visits broken) }
 {
     rules_have_places_of_their_own();
     texts_see_no_nodes();
@@ -70,7 +72,8 @@ pub fn no_row_is_compatible()
 /// nodes and parts along it exist.
 pub fn paths_end_where_they_lead()
     ensures ends { (s : Sides) (path : Path) (x : Triple) → PathLeadsTo (task_of s) path x → end_of s.old path ≡ x.old }
-    ensures walks { (s : Sides) (path : Path) (x : Triple) → IsGraph s.old.graph → IsGraph s.new.graph → PathLeadsTo (task_of s) path x → IsWalk s.old path }
+    ensures walks { (s : Sides) (path : Path) (x : Triple) → IsGraph s.old.graph → IsGraph s.new.graph
+        → PathLeadsTo (task_of s) path x → IsWalk s.old path }
 {
     steps_lead_to_nodes();
     paths_lead_to_nodes();
@@ -78,7 +81,8 @@ pub fn paths_end_where_they_lead()
 
 /// Everything from which the rows of an exploration's breaks are made exists.
 pub fn rows_can_be_read()
-    ensures { (s : Sides) (visits : List Visit) (broken : List (ℕ × Broken)) → IsExplored (task_of s) visits broken → AreReadable s visits broken }
+    ensures { (s : Sides) (visits : List Visit) (broken : List (ℕ × Broken)) → IsExplored (task_of s) visits broken
+        → AreReadable s visits broken }
 {
     paths_end_where_they_lead();
     breaks_by_representatives();
@@ -88,7 +92,8 @@ pub fn rows_can_be_read()
 
 /// Two libraries and marks have at most one right report: their bytes determine the printed text.
 pub fn a_right_report_is_one()
-    ensures { (s : Sides) (first other : List Row) → IsGraph s.old.graph → IsGraph s.new.graph → IsRightReport s first → IsRightReport s other → first ≡ other }
+    ensures { (s : Sides) (first other : List Row) → IsGraph s.old.graph → IsGraph s.new.graph → IsRightReport s first
+        → IsRightReport s other → first ≡ other }
 {
     alike_is_an_equivalence();
     alike_nodes_break_the_same_rules();

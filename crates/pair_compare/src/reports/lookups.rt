@@ -10,7 +10,8 @@ pub fn partner<'x, 'n>(
     library: &'x Library<'n, NewIx>,
     place: Option<usize>,
 ) -> Option<&'x Export<'n>>
-    ensures { MatchOption result (option_and_then (slice_get library.now.exports) place ≡ None) (λ export. option_and_then (slice_get library.now.exports) place ≡ Some (plain_export export.now)) }
+    ensures { MatchOption result (option_and_then (slice_get library.now.exports) place
+        ≡ None) (λ export. option_and_then (slice_get library.now.exports) place ≡ Some (plain_export export.now)) }
 {
     match place {
         None => None,

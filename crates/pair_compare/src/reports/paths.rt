@@ -80,7 +80,8 @@ fn push_one(
     before: usize,
 ) -> Result<(), AllocError>
     requires { part < length view.now.parts }
-    ensures { OnOk result (string_bytes text.new ≡ string_bytes text.old ++ (between before ++ step_text view.now part)) }
+    ensures { OnOk result (string_bytes text.new
+        ≡ string_bytes text.old ++ (between before ++ step_text view.now part)) }
 {
     push_between(text, before)?;
     push_step(alloc, text, view, part)
@@ -93,7 +94,8 @@ pub fn steps_text(
     route: &Route,
 ) -> Result<String, NoMemory>
     requires { IsWalk library.now (routes.path_of route.now.export route.now.parts) }
-    ensures text { IfOk result (λ text. string_bytes text ≡ path_texts.steps_text library.now (routes.path_of route.now.export route.now.parts)) }
+    ensures text { IfOk result (λ text. string_bytes text
+        ≡ path_texts.steps_text library.now (routes.path_of route.now.export route.now.parts)) }
     ensures named { IfErr result (λ e. e ≡ Allocation) }
 {
     let graph = library.graph();

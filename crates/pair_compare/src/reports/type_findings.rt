@@ -52,7 +52,8 @@ fn key_at(
     broken: &Broken,
 ) -> Result<(u8, usize, usize, Vec<u8>), NoMemory>
     requires { IsReadable (sides_of ground.now) visits.now (number, broken.now) }
-    ensures key { IfOk result (λ key. plain_key key ≡ key_of (task_of (sides_of ground.now)) (finding_of visits.now (number, broken.now))) }
+    ensures key { IfOk result (λ key. plain_key key
+        ≡ key_of (task_of (sides_of ground.now)) (finding_of visits.now (number, broken.now))) }
     ensures named { IfErr result (λ e. e ≡ Allocation) }
 {
     let visit = visits.visit(number);
@@ -70,7 +71,8 @@ fn told(
     explored: &Explored,
 ) -> Result<List<(usize, Broken)>, NoMemory>
     requires { AreReadable (sides_of ground.now) explored.now.visits explored.now.breaks }
-    ensures told { IfOk result (λ told. told ≡ told_breaks (task_of (sides_of ground.now)) explored.now.visits explored.now.breaks) }
+    ensures told { IfOk result (λ told. told
+        ≡ told_breaks (task_of (sides_of ground.now)) explored.now.visits explored.now.breaks) }
     ensures past { IfErr result (λ e. OnLimit e (DetailsPass (sides_of ground.now) explored.now.visits explored.now.breaks)) }
 {
     // A file chooses the texts of the keys, so they stand in a search tree: no choice makes one costlier than others.
@@ -128,7 +130,8 @@ pub(crate) fn push_type_rows(
 ) -> Result<(), NoMemory>
     requires readable { AreReadable (sides_of ground.now) explored.now.visits explored.now.breaks }
     requires counted { IsTaken rows.old.room.most row_size rows.old.list rows.old.room }
-    ensures appended { OnOk result (rows.new.list ≡ rows.old.list ++ type_rows (sides_of ground.now) explored.now.visits explored.now.breaks) }
+    ensures appended { OnOk result (rows.new.list
+        ≡ rows.old.list ++ type_rows (sides_of ground.now) explored.now.visits explored.now.breaks) }
     ensures past { IfErr result (λ e. OnLimit e (TypeRowsPass (sides_of ground.now) rows.old.room.most rows.old.list explored.now.visits explored.now.breaks)) }
 {
     rules_have_places_of_their_own();

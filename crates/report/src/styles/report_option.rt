@@ -52,7 +52,8 @@ pub fn wanted_listeners(
 ) -> Result<Vec<Box<dyn Listener>>, NoMemory>
     requires { All (λ listener. heard listener ≡ []) listeners.items }
     ensures unheard { IfOk result (λ kept. All (λ listener. heard listener ≡ []) kept.items) }
-    ensures kept { IfOk result (λ kept. kept.items ≡ filter (λ listener. spec.is_wanted wanted (voice listener).style) listeners.items) }
+    ensures kept { IfOk result (λ kept. kept.items
+        ≡ filter (λ listener. spec.is_wanted wanted (voice listener).style) listeners.items) }
     ensures voices { IfOk result (λ kept. map voice kept.items ≡ wanted_voices wanted (map voice listeners.items)) }
     ensures named { IfErr result (λ e. e ≡ Allocation) }
 {
