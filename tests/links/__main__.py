@@ -1,5 +1,5 @@
-"""Whether each link of a page leads somewhere, each path that a page names is there, and each section of a long page is in its contents:
-tests/links.sh says how it is called.
+"""Whether each link of a page leads somewhere, each path that a page names is there, each section of a long page is in its contents, and
+docs/INDEX.md is what the pages and the sources say: tests/links.sh says how it is called.
 
 A relative link leads to a file or a folder, and what stands behind its `#` is a heading of that page. A path in backticks that begins with a
 folder of this repository leads to a file or a folder too, unless it has a word in capitals in place of a name, or a star.
@@ -7,44 +7,18 @@ folder of this repository leads to a file or a folder too, unless it has a word 
 
 from __future__ import annotations
 
+import difflib
 import re
 import sys
-from functools import cache
 from pathlib import Path
 from typing import Iterator
 
-ROOT = Path(__file__).resolve().parents[2]
+from .index import INDEX, made_index
+from .markdown import ROOT, anchor_of, anchors, pages, prose
+
 FOLDERS = ("bench", "crates", "docs", "edits", "examples", "share", "tests", "tools")
-# What is made, or kept, and not part of the repository.
-MADE = {".git", "made", "out"}
 # A page with so many sections begins with its contents.
 MANY = 7
-
-
-def pages() -> list[Path]:
-    """The pages of the repository."""
-    return sorted(page for page in ROOT.rglob("*.md") if not MADE & set(page.relative_to(ROOT).parts))
-
-
-def prose(page: Path) -> str:
-    """The text of a page without its blocks of code."""
-    return re.sub(r"^( *)```.*?^\1```", "", page.read_text(encoding="utf-8"), flags=re.MULTILINE | re.DOTALL)
-
-
-def anchor_of(heading: str) -> str:
-    """The anchor of a heading, as GitHub makes it for the first of its name."""
-    text = re.sub(r"\[([^]]*)\]\([^)]*\)", r"\1", heading.strip())
-    return re.sub(r"[^\w\- ]", "", text.lower()).replace(" ", "-")
-
-
-@cache
-def anchors(page: Path) -> frozenset[str]:
-    """The anchors of the headings of a page, as GitHub makes them."""
-    found = list[str]()
-    for heading in re.findall(r"^#+ +(.*?) *$", prose(page), flags=re.MULTILINE):
-        anchor = anchor_of(heading)
-        found.append(f"{anchor}-{found.count(anchor)}" if anchor in found else anchor)
-    return frozenset(found)
 
 
 def faults_of_links(page: Path) -> Iterator[tuple[str, str | None]]:
@@ -78,9 +52,18 @@ def faults_of_contents(page: Path) -> Iterator[tuple[str, str | None]]:
         yield title, None if found in led else f"no link above the first section leads to {found}"
 
 
-def main() -> int:
-    """Checks all pages. The pages of edits name files as they were when an edit was tried."""
-    count, faults = 0, list[str]()
+def faults_of_index() -> Iterator[str]:
+    """The lines by which docs/INDEX.md differs from what the pages and the sources say."""
+    found = INDEX.read_text(encoding="utf-8") if INDEX.exists() else ""
+    lines = difflib.unified_diff(found.splitlines(), made_index().splitlines(), "docs/INDEX.md", "tests/links.sh --write", lineterm="", n=0)
+    yield from lines
+
+
+def main(arguments: list[str]) -> int:
+    """Checks all pages, or makes the index before. The pages of edits name files as they were when an edit was tried."""
+    if arguments == ["--write"]:
+        INDEX.write_text(made_index(), encoding="utf-8")
+    count, faults = 0, list(faults_of_index())
     for page in pages():
         name = page.relative_to(ROOT)
         found = list(faults_of_links(page))
@@ -96,4 +79,4 @@ def main() -> int:
 
 
 if __name__ == "__main__":
-    sys.exit(main())
+    sys.exit(main(sys.argv[1:]))

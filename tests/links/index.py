@@ -1,0 +1,269 @@
+"""The text of docs/INDEX.md: where each rule, fault, limit, status, note, option, sentence, table and section is."""
+
+from __future__ import annotations
+
+import os
+import re
+from itertools import chain
+from pathlib import Path
+from typing import Iterable, Iterator
+
+from .markdown import DOCS, ROOT, Section, anchor_of, sections, tables
+from .sources import Named, clauses, faults, kinds_of_notes, limits, options, rules, said, variables
+
+INDEX = DOCS / "INDEX.md"
+_README, _GUIDE, _PACKAGES = ROOT / "README.md", DOCS / "GUIDE.md", DOCS / "PACKAGES.md"
+_RULE_FILES, _SPECIFICATION, _PROOFS = DOCS / "RULE_FILES.md", DOCS / "SPECIFICATION.md", DOCS / "PROOFS.md"
+_ARCHITECTURE, _LIMITS = DOCS / "ARCHITECTURE.md", DOCS / "manual" / "LIMITS.md"
+_MANUAL = [DOCS / "manual" / f"{name}.md" for name in ("REPORTS", "LAYOUTS", "APPLICATIONS", "RELEASES", "GAPS", "LIMITS")]
+# The pages for users, in the order in which a word of theirs is looked for.
+_FOR_USERS = [_GUIDE, _PACKAGES, *_MANUAL, _RULE_FILES, DOCS / "FAQ.md", _README, _SPECIFICATION]
+_EVIDENCE = sorted((DOCS / "evidence").glob("*.md"))
+_PAGES = [_README, _GUIDE, *_MANUAL, _PACKAGES, _RULE_FILES, DOCS / "FAQ.md", _SPECIFICATION, DOCS / "DECISIONS.md", _PROOFS, _ARCHITECTURE,
+          ROOT / "CONTRIBUTING.md", *_EVIDENCE]
+# Pages that scripts make, with a section for each crate.
+_MADE = {"AUDIT", "CONTRACTS"}
+
+# Where rules of exports, and rules of types, are defined and checked.
+_FILES_OF_RULES = {
+    "X": ("pair_rules/specs/ExportRules.antt", "pair_compare/specs/reports/ExportRows.antt", "pair_rules/src/exports.rt"),
+    "L": ("pair_rules/specs/TypeRules.antt", "pair_rules/src/rules.rt"),
+}
+# Words that are neither numbers nor names of the sources, with the sections on them.
+_PROGRAMS = {
+    "`abi check`": ((_GUIDE, "Two builds"), (_SPECIFICATION, "The verdict")),
+    "`abi app`": ((_MANUAL[2], ""), (_GUIDE, "One application")),
+    "`abi verify`, `abi compose`, `abi migrate`": ((_GUIDE, "Certificates"), (_SPECIFICATION, "Certificates")),
+    "`abi exports`, `abi entries`": ((_SPECIFICATION, "The verdict"), (_README, "Commands")),
+    "`abi layout`": ((_MANUAL[1], ""), (_SPECIFICATION, "Layouts")),
+    "`abi trial`": ((_SPECIFICATION, "Answers"),),
+    "styles of reports: `text`, `table`, `counts`, `first`, `own`": ((_SPECIFICATION, "Reports"),),
+    "a line of a report, a path": ((_GUIDE, "Reading a break"), (_SPECIFICATION, "The verdict")),
+    "`abi-gate`": ((_GUIDE, "A gate in a build"), (_PACKAGES, 'A gate that can say "cannot tell"')),
+    "`abi-packages`": ((_PACKAGES, "Two sets of packages"), (_README, "Two packages in, an answer out")),
+    "`abi-report`": ((_MANUAL[0], ""),),
+    "`abi-release`, `abi-history`": ((_MANUAL[3], ""), (_MANUAL[3], "The history of one library")),
+    "`abi-baseline`, baselines": ((_PACKAGES, "The interface of a release, kept"), (_GUIDE, "A gate in a build")),
+    "`join-debug`": ((_PACKAGES, "One file of a library and its debug information"),),
+    "`dh_abi`, `dh-sequence-abi`": ((_GUIDE, "A gate with debhelper"),),
+    "RPM, CMake, Meson, GitHub, GitLab": ((_PACKAGES, "Recipes"),),
+    "`import abi` (Python)": ((_PACKAGES, "From Python"),),
+    "`make-packages`, `record.json`, licences": ((_GUIDE, "Packages of abi"),),
+    "`install.sh`, kits": ((ROOT / "CONTRIBUTING.md", "Building, proving, testing"), (ROOT / "CONTRIBUTING.md", "The kit")),
+    "certificate: `bind`, `alike`, `pair`": ((_GUIDE, "Certificates"), (_SPECIFICATION, "Certificates")),
+    "rule file: `[suppress_type]`, label": ((_RULE_FILES, ""), (_SPECIFICATION, "Rule files")),
+    "`abi-json`, its document, `report.schema.json`": ((_MANUAL[0], "The document"),),
+    "`gate.schema.json`, JUnit, SARIF": ((_PACKAGES, "Several libraries in one run"),),
+    "`release.json`, `release.schema.json`, `table.txt`": ((_MANUAL[3], "What comes out"),),
+    "binding, default version": ((_SPECIFICATION, "The verdict"),),
+    "registers, stack places, the psABI": ((_SPECIFICATION, "Call places"),),
+    "what is refused, such as C++": ((_MANUAL[4], "What is refused"),),
+}
+
+_HEAD = """\
+# Index
+
+Where is what? Search this page for a word, a number or a name, and follow the link in its line. Each tool also has a manual page, such as \
+`man abi-gate`. `tests/links.sh --write` makes this page from the other pages and from the sources.
+
+"""
+_STATUSES = """\
+| Of | Status or answer | Where |
+|---|---|---|
+| `abi`, `abi-json` | 0, 1, 2, 3, 4, 5, 6, 64 | {answers}; in short {short} |
+| `abi-gate` | 0 yes, 1 no, 2 `cannot tell`, 64; for several libraries also `gone`, `new`, `left out` | {gate}, {several} |
+| `abi-packages` | 0, 1, 2, 64; a line is `no`, `gone`, `cannot tell`, `yes`, `new` or `left out` | {packages}, {lines} |
+| `abi-release` | 0, 1, 2, 64; an answer is yes, no, gone, new or cannot tell | {release} |
+| `abi-history` | 0, 1, 2, 64 | {history} |
+| `abi-report` | 0, 1, 2, 64 | {report} |
+| `abi-baseline`, `join-debug` | 0, 2, 64 | {tools} |
+| `dh_abi` | the build stops on no and on `cannot tell` | {debhelper} |
+| `make` with a gate | 2 on no and on `cannot tell` | {build} |
+"""
+
+
+def name_of(page: Path) -> str:
+    """The name by which links call a page."""
+    return "evidence" if page == DOCS / "evidence" / "README.md" else f"evidence/{page.stem}" if page in _EVIDENCE else page.stem
+
+
+def link(section: Section) -> str:
+    """A link to a section, by its page and its heading."""
+    path = os.path.relpath(section.page, DOCS)
+    if section.depth == 1:
+        return f"[{name_of(section.page)}]({path})"
+    title = re.sub(r"\[([^]]*)\]\([^)]*\)", r"\1", section.title)
+    return f"[{name_of(section.page)}: {title}]({path}#{section.anchor})"
+
+
+def at(page: Path, heading: str) -> str:
+    """A link to the section of a page with this heading, which must be there, or to the page if there is none."""
+    (found,) = [section for section in sections(page) if (section.title == heading if heading else section.depth == 1)]
+    return link(found)
+
+
+def table(*head: str, rows: Iterable[tuple[str, ...]]) -> str:
+    """A table."""
+    lines = [f"| {' | '.join(cells)} |" for cells in rows]
+    return "\n".join([f"| {' | '.join(head)} |", "|---" * len(head) + "|", *lines]) + "\n"
+
+
+def of_fault(fault: Named) -> Section:
+    """The section of SPECIFICATION with a table that has a row for the fault, or else the last one that names it."""
+    rows = [(section, row) for section in sections(_SPECIFICATION) for rows in tables(section.text) for row in rows]
+    found = [section for section, row in rows if re.fullmatch(rf"{fault.word}( \w+)?", row[0])]
+    named = re.compile(rf"\b{fault.word} \w*{fault.name}\b")
+    return [*(section for section in sections(_SPECIFICATION) if named.search(section.text)), *found][-1]
+
+
+def where_option(option: str) -> list[Section]:
+    """Up to two sections on an option: those in which it begins a row of a table or a point, or else those that name it."""
+    named = re.compile(rf"{re.escape(option)}(?![\w-])")
+    first = re.compile(rf"^(?:\| *|- \*\*|\*\*)`{re.escape(option)}(?![\w-])", re.MULTILINE)
+    found = [section for page in _FOR_USERS for section in sections(page) if named.search(section.text)]
+    return sorted(found, key=lambda section: not first.search(section.text))[:2]
+
+
+def rows_of_rules() -> Iterator[tuple[str, ...]]:
+    """A row for each rule."""
+    for rule in rules():
+        exports = rule.word.startswith("X")
+        exact = "the-verdict" if exports else "the-rules-of-types"
+        pages = f"[what to do](GUIDE.md#what-to-do-about-a-break), [exactly](SPECIFICATION.md#{exact})"
+        yield rule.word, rule.words, pages, f"`{rule.name}`", ", ".join(f"`crates/{path}`" for path in _FILES_OF_RULES[rule.word[0]])
+
+
+def rows_of_faults() -> Iterator[tuple[str, ...]]:
+    """A row for each fault and each refusal of a certificate."""
+    for fault in faults():
+        yield fault.word, f"`{fault.name}`", fault.words, link(of_fault(fault))
+
+
+def rows_of_limits() -> Iterator[tuple[str, ...]]:
+    """A row for each limit."""
+    for limit in limits():
+        found = [section for section in sections(_LIMITS) if f"| {limit.words} | {limit.word} | " in section.text]
+        yield limit.word, f"`{limit.name}`", limit.words, link(found[0])
+
+
+def rows_of_notes() -> Iterator[tuple[str, ...]]:
+    """A row for each kind of note."""
+    told, breaking = at(_GUIDE, "What no rule judges"), at(_GUIDE, "Notes on what can break callers")
+    for kind, can_break in kinds_of_notes():
+        yield f"`{kind.word}`", kind.words, "can break callers" if can_break else "only told", breaking if can_break else told
+
+
+def rows_of_programs() -> Iterator[tuple[str, ...]]:
+    """A row for each program, tool and format."""
+    for words, places in _PROGRAMS.items():
+        yield words, ", ".join(at(page, heading) for page, heading in places)
+
+
+def rows_of_properties() -> Iterator[tuple[str, ...]]:
+    """A row for each property of rule files."""
+    found = dict[tuple[str, str], list[str]]()
+    for section in sections(_RULE_FILES):
+        for row in chain.from_iterable(rows[1:] for rows in tables(section.text) if rows[0][:2] == ["Property", "Read"]):
+            for name in re.findall(r"`(\w+)`", row[0]):
+                found.setdefault((name, row[1]), []).append(link(section))
+    for (name, read), places in sorted(found.items()):
+        yield f"`{name}`", read, ", ".join(places)
+
+
+def rows_of_sentences() -> Iterator[tuple[str, ...]]:
+    """A row for each sentence that is in a table of what to do, and for those that the sources have besides."""
+    known = set[str]()
+    for page, head in ((_GUIDE, "Note"), (_PACKAGES, "The line says")):
+        for section in sections(page):
+            for row in chain.from_iterable(rows[1:] for rows in tables(section.text) if rows[0][0] == head):
+                known.add(re.sub(r"[`.]", "", row[0]).strip())
+                yield row[0], link(section)
+    yield "`past the limit on ..`, `out of memory`", at(_LIMITS, "What is counted")
+    yield "`.. (fault NUMBER NAME at PLACE)`", "[by the number](#faults)"
+    for words in said():
+        if not any(words[:30] in other for other in known):
+            yield f"`{words}`", at(_SPECIFICATION, "Answers")
+
+
+def rows_of_options() -> Iterator[tuple[str, ...]]:
+    """A row for each option and each variable of the programs and tools."""
+    for name, tools in chain(options(), variables()):
+        places = [link(section) for section in where_option(name)] or [f"`man {tools[0]}`"]
+        yield f"`{name}`", ", ".join(f"`{tool}`" for tool in tools), ", ".join(places)
+
+
+def rows_of_clauses() -> Iterator[tuple[str, ...]]:
+    """A row for each clause of `run`, with the begin of the first promise that it states."""
+    for label in clauses():
+        for section in sections(_PROOFS):
+            cells = [row for rows in tables(section.text) if rows[0][-1] == "Clause" for row in rows[1:] if f"`{label}`" in row[-1]]
+            if cells:
+                words = re.sub(r"[*`]|\]\([^)]*\)|\[", "", cells[0][0]).split(" ")[:12]
+                yield f"`{label}`", f"{' '.join(words)} ..", link(section)
+                break
+
+
+def rows_of_words() -> str:
+    """The words of the glossary, and the crates."""
+    (glossary,) = [section for section in sections(_ARCHITECTURE) if section.title == "Glossary"]
+    words = [row[0] for rows in tables(glossary.text) for row in rows[1:]]
+    crates = [f"`{crate}`" for section in sections(_ARCHITECTURE) for rows in tables(section.text) if rows[0][0] == "Crate" and len(rows[0]) == 3
+              for row in rows[1:] for crate in re.findall(r"`(\w+)`", row[0])]
+    return f"{link(glossary)}: {', '.join(words)}.\n\n{at(_ARCHITECTURE, 'The crates')}: {', '.join(crates)}.\n"
+
+
+def shown(page: Path) -> list[Section]:
+    """The sections of a page that the index names."""
+    return [section for section in sections(page) if section.depth == 1 or page.stem not in _MADE or section.depth == 2]
+
+
+def rows_of_tables() -> Iterator[tuple[str, ...]]:
+    """A row for each section with tables, with the heads of these."""
+    for section in chain.from_iterable(shown(page) for page in _PAGES):
+        heads = list(dict.fromkeys(" / ".join(cell for cell in rows[0] if cell) for rows in tables(section.text)))
+        if heads and section.page.stem not in _MADE:
+            yield link(section), "; ".join(heads)
+
+
+def contents() -> Iterator[str]:
+    """A line for each page, with its sections."""
+    for page in _PAGES:
+        first, *others = shown(page)
+        path = os.path.relpath(page, DOCS)
+        links = [f"[{re.sub(r'[][]', '', re.sub(r'[(][^)]*[)]', '', it.title))}]({path}#{it.anchor})" for it in others]
+        yield f"- **{link(first)}**" + (f": {', '.join(links)}" if links else "")
+
+
+def statuses() -> str:
+    """Which section has which exit status."""
+    return _STATUSES.format(
+        answers=at(_SPECIFICATION, "Answers"), short=at(_README, "Exit statuses"),
+        gate=at(_PACKAGES, 'A gate that can say "cannot tell"'), several=at(_PACKAGES, "Several libraries in one run"),
+        packages=at(_PACKAGES, "Two sets of packages"), lines=at(_PACKAGES, "What a line says"),
+        release=at(DOCS / "manual" / "RELEASES.md", "What comes out"), history=at(DOCS / "manual" / "RELEASES.md", "The history of one library"),
+        report=at(DOCS / "manual" / "REPORTS.md", "What a report says"), tools=link(sections(_PACKAGES)[0]),
+        debhelper=at(_GUIDE, "A gate with debhelper"), build=at(_GUIDE, "A gate in a build"))
+
+
+def parts() -> Iterator[tuple[str, str]]:
+    """The sections of the index, each with its text."""
+    yield "Rules", table("Rule", "What broke", "Pages", "In the code", "Definition; code", rows=rows_of_rules())
+    yield "Programs and formats", table("Word", "Where", rows=rows_of_programs())
+    yield "Faults", table("No", "Name", "When", "Exactly", rows=rows_of_faults())
+    yield "Statuses", statuses()
+    yield "Limits", table("Words of the sentence", "Name in the code", "What is counted", "How much", rows=rows_of_limits())
+    yield "Notes", table("Kind", "What it is about", "Weight", "Where", rows=rows_of_notes())
+    yield "Rule files", table("Property", "Read", "Where", rows=rows_of_properties())
+    yield "Sentences", table("Sentence", "Where", rows=rows_of_sentences())
+    yield "Options and variables", table("Name", "Of", "Where", rows=rows_of_options())
+    yield "Clauses of run", table("Clause", "What it promises", "Where", rows=rows_of_clauses())
+    yield "Words and crates", rows_of_words()
+    yield "Tables", table("Where", "Columns", rows=rows_of_tables())
+    yield "Sections of all pages", "\n".join(contents()) + "\n"
+
+
+def made_index() -> str:
+    """The text of the index."""
+    found = list(parts())
+    links = ", ".join(f"[{title}](#{anchor_of(title)})" for title, _ in found)
+    return f"{_HEAD}{links}\n\n" + "\n".join(f"## {title}\n\n{text}" for title, text in found)
