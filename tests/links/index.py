@@ -9,7 +9,7 @@ from pathlib import Path
 from typing import Iterable, Iterator
 
 from .markdown import DOCS, ROOT, Section, anchor_of, sections, tables
-from .sources import Named, clauses, faults, kinds_of_notes, limits, options, rules, said, variables
+from .sources import Named, clauses, faults, kinds_of_notes, limits, options, rules, said, said_of_faults, variables
 
 INDEX = DOCS / "INDEX.md"
 _README, _GUIDE, _PACKAGES = ROOT / "README.md", DOCS / "GUIDE.md", DOCS / "PACKAGES.md"
@@ -70,13 +70,13 @@ Where is what? Search this page for a word, a number or a name, and follow the l
 _STATUSES = """\
 | Of | Status or answer | Where |
 |---|---|---|
-| `abi`, `abi-json` | 0, 1, 2, 3, 4, 5, 6, 64 | {answers}; in short {short} |
+{rows}| `abi`, `abi-json` | all of these in short | {short} |
 | `abi-gate` | 0 yes, 1 no, 2 `cannot tell`, 64; for several libraries also `gone`, `new`, `left out` | {gate}, {several} |
-| `abi-packages` | 0, 1, 2, 64; a line is `no`, `gone`, `cannot tell`, `yes`, `new` or `left out` | {packages}, {lines} |
-| `abi-release` | 0, 1, 2, 64; an answer is yes, no, gone, new or cannot tell | {release} |
-| `abi-history` | 0, 1, 2, 64 | {history} |
-| `abi-report` | 0, 1, 2, 64 | {report} |
-| `abi-baseline`, `join-debug` | 0, 2, 64 | {tools} |
+| `abi-packages` | 0 yes, 1 no, 2 `cannot tell`, 64; a line is `no`, `gone`, `cannot tell`, `yes`, `new` or `left out` | {packages}, {lines} |
+| `abi-release` | 0 yes, 1 no, 2 `cannot tell`, 64; an answer is yes, no, `gone`, `new` or `cannot tell` | {release} |
+| `abi-history` | 0 yes, 1 no, 2 `cannot tell`, 64 | {history} |
+| `abi-report` | 0 yes, 1 no, 2 `cannot tell`, 64 | {report} |
+| `abi-baseline`, `join-debug` | 0 done, 2 not, 64 | {tools} |
 | `dh_abi` | the build stops on no and on `cannot tell` | {debhelper} |
 | `make` with a gate | 2 on no and on `cannot tell` | {build} |
 """
@@ -136,7 +136,8 @@ def rows_of_rules() -> Iterator[tuple[str, ...]]:
 def rows_of_faults() -> Iterator[tuple[str, ...]]:
     """A row for each fault and each refusal of a certificate."""
     for fault in faults():
-        yield fault.word, f"`{fault.name}`", fault.words, link(of_fault(fault))
+        kind = "fault" if int(fault.word) < 70 else "refused"
+        yield f"{kind} {fault.word} {fault.name}", fault.words, link(of_fault(fault))
 
 
 def rows_of_limits() -> Iterator[tuple[str, ...]]:
@@ -180,6 +181,10 @@ def rows_of_sentences() -> Iterator[tuple[str, ...]]:
                 yield row[0], link(section)
     yield "`past the limit on ..`, `out of memory`", at(_LIMITS, "What is counted")
     yield "`.. (fault NUMBER NAME at PLACE)`", "[by the number](#faults)"
+    numbered = {fault.word: fault for fault in faults()}
+    for words, numbers in said_of_faults().items():
+        places = [f"fault {number}: {link(of_fault(numbered[number]))}" for number in numbers]
+        yield f"`{words}`", ", ".join(places) or "[by the number](#faults) at its end"
     for words in said():
         if not any(words[:30] in other for other in known):
             yield f"`{words}`", at(_SPECIFICATION, "Answers")
@@ -236,8 +241,10 @@ def contents() -> Iterator[str]:
 
 def statuses() -> str:
     """Which section has which exit status."""
+    answers = [row for section in sections(_SPECIFICATION) if section.title == "Answers" for row in tables(section.text)[0][1:]]
+    rows = [f"| `abi`, `abi-json` | exit status {number}: {status} | {at(_SPECIFICATION, 'Answers')} |\n" for status, number, _ in answers]
     return _STATUSES.format(
-        answers=at(_SPECIFICATION, "Answers"), short=at(_README, "Exit statuses"),
+        rows="".join(rows), short=at(_README, "Exit statuses"),
         gate=at(_PACKAGES, 'A gate that can say "cannot tell"'), several=at(_PACKAGES, "Several libraries in one run"),
         packages=at(_PACKAGES, "Two sets of packages"), lines=at(_PACKAGES, "What a line says"),
         release=at(DOCS / "manual" / "RELEASES.md", "What comes out"), history=at(DOCS / "manual" / "RELEASES.md", "The history of one library"),
@@ -249,7 +256,7 @@ def parts() -> Iterator[tuple[str, str]]:
     """The sections of the index, each with its text."""
     yield "Rules", table("Rule", "What broke", "Pages", "In the code", "Definition; code", rows=rows_of_rules())
     yield "Programs and formats", table("Word", "Where", rows=rows_of_programs())
-    yield "Faults", table("No", "Name", "When", "Exactly", rows=rows_of_faults())
+    yield "Faults", table("As it is printed", "When", "Exactly", rows=rows_of_faults())
     yield "Statuses", statuses()
     yield "Limits", table("Words of the sentence", "Name in the code", "What is counted", "How much", rows=rows_of_limits())
     yield "Notes", table("Kind", "What it is about", "Weight", "Where", rows=rows_of_notes())

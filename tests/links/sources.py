@@ -20,7 +20,7 @@ _MAN = sorted((ROOT / "share" / "man" / "man1").glob("*.1"))
 
 @dataclass(frozen=True)
 class Named:
-    """Something that the program names: its name in the code, the word or number for it, and what it is in words."""
+    """Something that the program names: its name in the code (that of a fault is the printed one), the word or number for it, and what it is."""
 
     name: str
     word: str
@@ -60,6 +60,16 @@ def faults() -> list[Named]:
         found += [Named(names[name], number, when[name]) for name, number in texts(path, f"{of}_number").items()]
     found.append(Named("NoTag", "85", documented("library_layout/src/layouts.rt")["NoTag"]))
     return sorted(found, key=lambda fault: int(fault.word))
+
+
+def said_of_faults() -> dict[str, list[str]]:
+    """The sentences on faults, each with the numbers of its faults. Those of a default arm have none."""
+    numbers = texts("abi_base/specs/Fault.antt", "fault_number")
+    arms = r'((?:FaultKind::\w+[\s|]*)+|_|Some\(\w+\)) => \{?\s*(?:Some\()?"([^"{}]+)"'
+    found = [(words, [numbers[kind] for kind in re.findall(r"FaultKind::(\w+)", kinds)])
+             for kinds, words in re.findall(arms, read("explain/src/faults.rt"))]
+    found += [(words, []) for words in re.findall(r'(?:^| )"([^"\n{}\\]+)"', re.sub(r'b"[^"]*"', "", read("explain/src/files.rt")), re.MULTILINE)]
+    return {words: kinds for words, kinds in found if words.count(" ") > 2}
 
 
 def limits() -> list[Named]:
