@@ -184,7 +184,7 @@ def rows_of_sentences() -> Iterator[tuple[str, ...]]:
     numbered = {fault.word: fault for fault in faults()}
     for words, numbers in said_of_faults().items():
         places = [f"fault {number}: {link(of_fault(numbered[number]))}" for number in numbers]
-        yield f"`{words}`", ", ".join(places) or "[by the number](#faults) at its end"
+        yield f"`{words}`", ", ".join(places) or "a fault, [by the number](#faults) at its end"
     for words in said():
         if not any(words[:30] in other for other in known):
             yield f"`{words}`", at(_SPECIFICATION, "Answers")
