@@ -25,6 +25,8 @@ may list one too many, where a variable has the name of a definition.
 - {definitions} of {all_definitions} definitions, in {files} of the {all_files} files of `crates/*/specs`: {lines} of {all_lines} lines
 - {types} types and traits, in {type_files} files of `crates/*/src`
 - {kit} modules of the kit
+
+[The files that no clause of `run` reaches](#files-that-no-clause-of-run-reaches) are listed at the end: the promises of `run` do not rest on their words.
 """
 
 _CONTRACTS = """\
@@ -96,6 +98,14 @@ def row_of(path: Path, made: list[Definition]) -> str:
     return f"| {linked(path)} | {subject_of(path)} | {len(made)} of {own} | {lines} of {lines_in(path)} |"
 
 
+def unreached(reached: Reached) -> Iterator[str]:
+    """A line for each crate with files of definitions of which none is reached."""
+    files = (file for crate in reversed(CRATES) for file in sorted((ROOT / "crates" / crate / "specs").glob("**/*.antt")))
+    left = (file for file in files if read_module(file).definitions and file not in reached.definitions)
+    for crate, paths in groupby(left, crate_of):
+        yield f"- `{crate}`: {', '.join(map(linked, paths))}"
+
+
 def audit_page() -> str:
     """The page on what an auditor must read."""
     reached = Walk().run()
@@ -109,6 +119,8 @@ def audit_page() -> str:
     page += [f"| {crate_of(path)} | {linked(path)} | {', '.join(f'`{name}`' for name in reached.types[path])} |"
              for path in from_the_top(reached.types)]
     page += ["\n## Modules of the kit\n", ", ".join(f"`{module.removeprefix('Rattle.')}`" for module in sorted(reached.kit)), ""]
+    page += ["## Files that no clause of run reaches\n", "Contracts inside the crates, and of what stands beside `run`, cite these.\n"]
+    page += [*unreached(reached), ""]
     return "\n".join(page)
 
 

@@ -117,7 +117,7 @@ def variables() -> Iterator[tuple[str, list[str]]]:
 
 def said() -> list[str]:
     """Sentences of `abi` beside an answer, as far as they are fixed words: those of more than three words."""
-    found = [words for path in ("Sentences", "OtherInputs", "Programs", "Tags") for words in
-             re.findall(r'codes "([^"]*)"', read(f"explain/specs/{path}.antt"))]
+    paths = ("explain/specs/Sentences.antt", "explain/specs/OtherInputs.antt", "explain/specs/Programs.antt", "explain/specs/Tags.antt")
+    found = [words for path in paths for words in re.findall(r'codes "([^"]*)"', read(path))]
     found += re.findall(r'"([^"{}]+)"', "".join(line for line in read("explain/src/wrong.rt").splitlines() if not line.strip().startswith("//")))
     return list(dict.fromkeys(words.strip(" ,") for words in found if words.count(" ") > 2 and not words.startswith("refused")))
