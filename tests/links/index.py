@@ -15,11 +15,12 @@ INDEX = DOCS / "INDEX.md"
 _README, _GUIDE, _PACKAGES = ROOT / "README.md", DOCS / "GUIDE.md", DOCS / "PACKAGES.md"
 _RULE_FILES, _SPECIFICATION, _PROOFS = DOCS / "RULE_FILES.md", DOCS / "SPECIFICATION.md", DOCS / "PROOFS.md"
 _ARCHITECTURE, _LIMITS = DOCS / "ARCHITECTURE.md", DOCS / "manual" / "LIMITS.md"
+_GAPS, _DECISIONS = DOCS / "manual" / "GAPS.md", DOCS / "DECISIONS.md"
 _MANUAL = [DOCS / "manual" / f"{name}.md" for name in ("REPORTS", "LAYOUTS", "APPLICATIONS", "RELEASES", "GAPS", "LIMITS")]
 # The pages for users, in the order in which a word of theirs is looked for.
 _FOR_USERS = [_GUIDE, _PACKAGES, *_MANUAL, _RULE_FILES, DOCS / "FAQ.md", _README, _SPECIFICATION]
 _EVIDENCE = sorted((DOCS / "evidence").glob("*.md"))
-_PAGES = [_README, _GUIDE, *_MANUAL, _PACKAGES, _RULE_FILES, DOCS / "FAQ.md", _SPECIFICATION, DOCS / "DECISIONS.md", _PROOFS, _ARCHITECTURE,
+_PAGES = [_README, _GUIDE, *_MANUAL, _PACKAGES, _RULE_FILES, DOCS / "FAQ.md", _SPECIFICATION, _DECISIONS, _PROOFS, _ARCHITECTURE,
           ROOT / "CONTRIBUTING.md", *_EVIDENCE]
 # Pages that scripts make, with a section for each crate.
 _MADE = {"AUDIT", "CONTRACTS"}
@@ -57,7 +58,7 @@ _PROGRAMS = {
     "`release.json`, `release.schema.json`, `table.txt`": ((_MANUAL[3], "What comes out"),),
     "binding, default version": ((_SPECIFICATION, "The verdict"),),
     "registers, stack places, the psABI": ((_SPECIFICATION, "Call places"),),
-    "what is refused, such as C++": ((_MANUAL[4], "What is refused"),),
+    "what is refused, such as C++": ((_GAPS, "What is refused"),),
 }
 
 _HEAD = """\
@@ -208,6 +209,13 @@ def rows_of_clauses() -> Iterator[tuple[str, ...]]:
                 break
 
 
+def rows_of_points() -> Iterator[tuple[str, ...]]:
+    """A row for each point of the pages on gaps and on decisions."""
+    for section in chain(sections(_GAPS), sections(_DECISIONS)):
+        for point in re.findall(r"^- \*\*(.*?)\*\*", section.text, re.MULTILINE):
+            yield re.sub(r"\[([^]]*)\]\([^)]*\)", r"\1", point).rstrip("."), link(section)
+
+
 def rows_of_words() -> str:
     """The words of the glossary, and the crates."""
     (glossary,) = [section for section in sections(_ARCHITECTURE) if section.title == "Glossary"]
@@ -264,6 +272,7 @@ def parts() -> Iterator[tuple[str, str]]:
     yield "Sentences", table("Sentence", "Where", rows=rows_of_sentences())
     yield "Options and variables", table("Name", "Of", "Where", rows=rows_of_options())
     yield "Clauses of run", table("Clause", "What it promises", "Where", rows=rows_of_clauses())
+    yield "Gaps and decisions", table("Point", "Where", rows=rows_of_points())
     yield "Words and crates", rows_of_words()
     yield "Tables", table("Where", "Columns", rows=rows_of_tables())
     yield "Sections of all pages", "\n".join(contents()) + "\n"
