@@ -26,7 +26,8 @@ may list one too many, where a variable has the name of a definition.
 - {types} types and traits, in {type_files} files of `crates/*/src`
 - {kit} modules of the kit
 
-[The files that no clause of `run` reaches](#files-that-no-clause-of-run-reaches) are listed at the end: the promises of `run` do not rest on their words.
+[The files that no clause of `run` reaches](#files-that-no-clause-of-run-reaches) are listed at the end: its promises do not rest \
+on their words.
 """
 
 _CONTRACTS = """\
