@@ -12,7 +12,8 @@ use Rattle.std.proofs.lemmas.List.Sorted.{sorted_far, sum_by-IsPermutation}
 use Rattle.std.proofs.lemmas.List.Sums.{sum_by-take-le, sum_by-take-drop, sum_by-cons}
 use Rattle.std.proofs.lemmas.Slice.Eq.{bytes_eq-Decides}
 use Rattle.abi_base.specs.declared.fault.NoMemory.{NoMemory}
-use Rattle.abi_base.specs.declared.fault.NoMemory.TheVariants.{Past}
+use Rattle.abi_base.specs.declared.fault.NoMemory.TheVariants.{Allocation, Past}
+use Rattle.abi_base.specs.declared.limit.Limit.{Limit}
 use Rattle.abi_base.specs.declared.limit.Limit.TheVariants.{BlockSections, PatternLetters, Patterns, Soname}
 use Rattle.abi_base.specs.Budgets.{allowed}
 use Rattle.abi_base.specs.Outcome.{OnLimit}
@@ -149,6 +150,10 @@ chosen_crowded true sections asks crowd = (crowd.0, omega (arith, crowd.1, found
 chosen_crowded false sections asks crowd =
     let both : true ≡ false = sym asks ∙ none_asks sections in
     cc
+
+-- out of memory passes no limit
+pub memory_passes : (e : NoMemory) (P : Limit → Type 0) → e ≡ Allocation → OnLimit e P
+memory_passes e P is = rw is tt
 
 -- a block of sections that passes the limit is of sections that pass it
 pub front_passes : (e : NoMemory) (sections : List PlainSection) (end : ℕ) → OnLimit e (PassesHandles (take end sections)) → OnLimit e (PassesHandles sections)

@@ -1,9 +1,9 @@
 -- Two lists of sections suppress together what each of them suppresses.
-use Rattle.std.proofs.Common.{◌≡◌, ◌<◌, ◌≤◌, ◌+◌, ◌-◌, ℕ, Bool, true, false, List, [], ◌∷◌, ◌++◌, length, take, drop, get_or, map, Option, refl, sym, ◌∙◌, ap, subst, arith}
+use Rattle.std.proofs.Common.{◌≡◌, ◌<◌, ◌≤◌, ◌+◌, ◌-◌, ℕ, Bool, true, false, List, [], ◌∷◌, ◌++◌, length, take, drop, get_or, map, set, Option, refl, sym, ◌∙◌, ap, subst, arith}
 use Rattle.std.specs.Prelude.{◌||◌, not}
 use Rattle.std.specs.List.{filter, list_any}
 use Rattle.std.proofs.Math.Seq.{take-add}
-use Rattle.std.proofs.lemmas.List.{length-map, length-take-le, take_more}
+use Rattle.std.proofs.lemmas.List.{length-map, length-take-le, take_more, length-set, take_all, take_more_set, get_or-set_other}
 use Rattle.std.proofs.lemmas.List.Elements.{filter-append}
 use Rattle.std.proofs.lemmas.List.Folds.{list_any-append}
 use Rattle.abi_base.proofs.lemmas.Cases.{bool_cases}
@@ -96,6 +96,36 @@ either-more ones others i flags now flag same inside was is put =
     ∙ ap (λ (bs : List Bool). either bs (take i others ++ y ∷ [])) (sym (take_more ones i false inside))
     ∙ ap (λ (bs : List Bool). either (take (i + 1) ones) bs) (sym (take_more others i false inside_too))
 
+-- the flags before place i are set where one of the two lists has them set, and the others are those of the first list
+pub record IsJoined (ones others : List Bool) (i : ℕ) (flags : List Bool) : Type 0 where
+  pub size : length flags ≡ length ones
+  pub front : take i flags ≡ either (take i ones) (take i others)
+  pub rest : (k : ℕ) → i ≤ k → get_or flags k false ≡ get_or ones k false
+
+pub joined-start : (ones others : List Bool) → IsJoined ones others 0 ones
+unfolding either
+joined-start ones others = record { size = refl; front = refl; rest = λ k le. refl }
+
+pub joined-more : (ones others flags now : List Bool) (i : ℕ) (flag : Bool) → length ones ≡ length others → i < length others
+    → IsJoined ones others i flags → flag ≡ (get_or flags i false || get_or others i false) → now ≡ set flags i flag → IsJoined ones others (i + 1) now
+joined-more ones others flags now i flag same inside was is put =
+    let here : i < length flags = omega (arith, was.size, same, inside) in
+    let inside_ones : i < length ones = omega (arith, same, inside) in
+    record {
+      size = ap length put ∙ length-set flags i flag ∙ was.size;
+      front = either-more ones others i (take i flags) (take (i + 1) now) flag same inside_ones was.front (is ∙ ap (λ (b : Bool). b || get_or others i false) (was.rest i (omega arith)))
+          (ap (λ (bs : List Bool). take (i + 1) bs) put ∙ take_more_set flags i flag here);
+      rest = λ k le. ap (λ (bs : List Bool). get_or bs k false) put ∙ get_or-set_other flags i k flag false (λ e. omega (arith, le, e)) ∙ was.rest k (omega (arith, le));
+    }
+
+pub joined-end : (ones others flags : List Bool) (i : ℕ) → length ones ≡ length others → length others ≤ i → IsJoined ones others i flags → flags ≡ either ones others
+joined-end ones others flags i same past all =
+    let all_ones : take i ones ≡ ones = take_all i ones (omega (arith, same, past)) in
+    let all_flags : take i flags ≡ flags = take_all i flags (omega (arith, all.size, same, past)) in
+    sym all_flags ∙ all.front
+    ∙ ap (λ (bs : List Bool). either bs (take i others)) all_ones
+    ∙ ap (λ (bs : List Bool). either ones bs) (take_all i others past)
+
 -- ---- rule files
 
 pub dropped_by : (rules : PlainRules) (soname : Option (List ℕ)) (e : PlainExport) (named others : List PlainSection) (a b r : Bool) → named ≡ rules.sections → others ≡ rules.sections
@@ -104,8 +134,8 @@ unfolding is_dropped
 dropped_by rules soname e named others a b r is_named is_others is_a is_b is =
     is ∙ rw (is_a, is_b, is_named, is_others) (sym (drops-together (chosen true rules.sections) (chosen false rules.sections) rules.sections (together-chosen rules.sections) soname e))
 
-pub marked_by : (rules : PlainRules) (soname : Option (List ℕ)) (labels : List PlainLabel) (way : Way) (named others : List PlainSection) (a b r : Bool) → named ≡ chosen true rules.sections → others ≡ chosen false rules.sections
-    → a ≡ marks_names named soname way labels → b ≡ marks_names others soname way labels → r ≡ (a || b) → r ≡ is_marked rules soname labels way
+pub marked_by : (rules : PlainRules) (soname : Option (List ℕ)) (labels : List PlainLabel) (way : Way) (named others : List PlainSection) (a b r : Bool) → named ≡ rules.sections → others ≡ rules.sections
+    → a ≡ marks_names (chosen true named) soname way labels → b ≡ marks_names (chosen false others) soname way labels → r ≡ (a || b) → r ≡ is_marked rules soname labels way
 unfolding is_marked
 marked_by rules soname labels way named others a b r is_named is_others is_a is_b is =
     is ∙ rw (is_a, is_b, is_named, is_others) (sym (marks-together (chosen true rules.sections) (chosen false rules.sections) rules.sections (together-chosen rules.sections) soname way labels))

@@ -39,10 +39,12 @@ flags_more f nodes i flags now labels flag lt was are is put =
     put ∙ ap (λ (bs : List Bool). bs ++ flag ∷ []) was ∙ ap (λ (b : Bool). map g (take i nodes) ++ b ∷ []) here
     ∙ sym (ap (map g) (take_more nodes i void_node lt) ∙ map-append g (take i nodes) (node_at nodes i ∷ []))
 
--- The sections that ask about names and the others together give the marks of the rule file.
-pub marks_are : (rules : PlainRules) (old : PlainLibrary) (digest : List ℕ) (sections : List PlainSection) (named others flags : Flags) → digest ≡ rules.digest → sections ≡ rules.sections
-    → AreFlags (chosen true sections) old named → AreFlags (chosen false sections) old others → AreEither named others flags → marks_with digest flags.exports flags.direct flags.pointer ≡ marks_of rules old
+-- The sections that ask about names and the others together are all sections.
+pub all_are : (old : PlainLibrary) (sections : List PlainSection) (named others flags : Flags) → AreFlags (chosen true sections) old named → AreFlags (chosen false sections) old others → AreEither named others flags → AreFlags sections old flags
+all_are old sections named others flags is_named is_others is = joined (chosen true sections) (chosen false sections) sections old named others flags (together-chosen sections) is_named is_others is
+
+-- The flags of all sections are the marks of the rule file.
+pub marks_are : (rules : PlainRules) (old : PlainLibrary) (digest : List ℕ) (sections : List PlainSection) (flags : Flags) → digest ≡ rules.digest → sections ≡ rules.sections
+    → AreFlags sections old flags → marks_with digest flags.exports flags.direct flags.pointer ≡ marks_of rules old
 unfolding marks_of is_dropped is_marked
-marks_are rules old digest sections named others flags is_digest is_sections is_named is_others is =
-    let all : AreFlags sections old flags = joined (chosen true sections) (chosen false sections) sections old named others flags (together-chosen sections) is_named is_others is in
-    rw (all.exports, all.direct, all.pointer, is_digest, is_sections) refl
+marks_are rules old digest sections flags is_digest is_sections all = rw (all.exports, all.direct, all.pointer, is_digest, is_sections) refl

@@ -31,6 +31,25 @@ impl<'r> Model for BoxedProperty<'r> {
         × IfNone b.compiled (keys.has_pattern b.property.now.key ≡ false) };
 }
 
+// Compiles the pattern of a property.
+fn compiled<'r>(
+    alloc: Global,
+    property: &'r Property,
+) -> Result<Box<CompiledProperty<'r>>, NoMemory>
+    ensures is { IfOk result (λ compiled. compiled.value ≡ property.now) }
+    ensures named { IfErr result (λ e. e ≡ Allocation) }
+{
+    Ok(Box::new(alloc, property.compiled(alloc)?)?)
+}
+
+// Prepares the search for a pattern.
+fn prepared<'c>(alloc: Global, compiled: &'c CompiledProperty) -> Result<Box<Test<'c>>, NoMemory>
+    ensures is { IfOk result (λ test. test.value ≡ compiled.now) }
+    ensures named { IfErr result (λ e. e ≡ Allocation) }
+{
+    Ok(Box::new(alloc, compiled.test(alloc)?)?)
+}
+
 impl<'r> BoxedProperty<'r> {
     /// Compiles the pattern of a property, if it has one.
     pub fn of(alloc: Global, property: &'r Property) -> Result<BoxedProperty<'r>, NoMemory>
@@ -43,7 +62,7 @@ impl<'r> BoxedProperty<'r> {
                 compiled: None,
             });
         }
-        let compiled = Box::new(alloc, property.compiled(alloc)?)?;
+        let compiled = compiled(alloc, property)?;
         Ok(BoxedProperty {
             property,
             compiled: Some(compiled),
@@ -58,7 +77,7 @@ impl<'r> BoxedProperty<'r> {
         let property = self.property;
         match &self.compiled {
             Some(compiled) => {
-                let test = Box::new(alloc, compiled.test(alloc)?)?;
+                let test = prepared(alloc, compiled)?;
                 Ok(BoxedTest {
                     property,
                     test: Some(test),

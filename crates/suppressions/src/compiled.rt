@@ -143,17 +143,25 @@ fn gates_in<'c>(alloc: Global, sections: &'c [CompiledSection]) -> Result<Vec<&'
     Ok(texts)
 }
 
+// Patterns compiled together, unless there are few.
+fn set_of(alloc: Global, texts: &[&[u8]]) -> Result<Option<Box<PatternSet>>, NoMemory>
+    ensures is { IfOk result (λ gate. ForSome gate (λ set. set.value ≡ map (λ text. text.now) texts.now)) }
+    ensures named { IfErr result (λ e. e ≡ Allocation) }
+{
+    if texts.len() < FEWEST_TOGETHER {
+        return Ok(None);
+    }
+    let set = PatternSet::compile(alloc, texts)?;
+    Ok(Some(Box::new(alloc, set)?))
+}
+
 // The patterns of sections for names, compiled together, unless there are few.
 fn gate(alloc: Global, sections: &[CompiledSection]) -> Result<Option<Box<PatternSet>>, NoMemory>
     ensures is { IfOk result (λ gate. ForSome gate (λ set. set.value ≡ gates_of sections.now)) }
     ensures named { IfErr result (λ e. e ≡ Allocation) }
 {
     let texts = gates_in(alloc, sections)?;
-    if texts.len() < FEWEST_TOGETHER {
-        return Ok(None);
-    }
-    let set = PatternSet::compile(alloc, texts.as_slice())?;
-    Ok(Some(Box::new(alloc, set)?))
+    set_of(alloc, texts.as_slice())
 }
 
 /// Sections with their patterns compiled, those for names also all together. Contracts see the list of the sections.

@@ -48,7 +48,6 @@ fn compiled_drop(
 }
 
 // Whether the chosen sections drop an export: with `asking` those that test names, else the others.
-#[tactic(auto, using(crate::proofs::CrowdLemmas::chosen_pass))]
 fn chosen_drop(
     alloc: Global,
     sections: &[Section],
@@ -61,8 +60,7 @@ fn chosen_drop(
     ensures past { IfErr result (λ e. OnLimit e (PassesHandles sections.now)) }
 {
     let compiled = CompiledSections::chosen(alloc, sections, asking)?;
-    let drop = compiled_drop(alloc, &compiled, soname, export)?;
-    Ok(drop)
+    compiled_drop(alloc, &compiled, soname, export)
 }
 
 /// Whether a rule file drops an export of a library that has this soname.
@@ -115,8 +113,37 @@ fn compiled_mark(
     Ok(marks_labels(&mut ready, soname, labels, way))
 }
 
+/// The names of a type of a library with a soname, and how a program reaches the type.
+#[derive(Drop)]
+struct Reached<'x> {
+    soname: Option<&'x [u8]>,
+    labels: &'x [Label<'x>],
+    way: Way,
+}
+
+// Whether the chosen sections mark a type: with `asking` those that test names, else the others.
+fn chosen_mark(
+    alloc: Global,
+    sections: &[Section],
+    asking: bool,
+    reached: &Reached,
+) -> Result<bool, NoMemory>
+    ensures is { IfOk result (λ mark. mark
+        ≡ marks_names (chosen asking sections.now) (option_copied reached.now.soname) reached.now.way (map plain_label reached.now.labels.now)) }
+    ensures past { IfErr result (λ e. OnLimit e (PassesHandles sections.now)) }
+{
+    let compiled = CompiledSections::chosen(alloc, sections, asking)?;
+    compiled_mark(
+        alloc,
+        &compiled,
+        reached.soname,
+        reached.labels,
+        reached.way,
+    )
+}
+
 /// Whether a rule file marks a type that has these names, if a program reaches it in this way. The library has this soname.
-#[tactic(auto, using(crate::proofs::CrowdLemmas::chosen_pass), unfolding(crate::specs::Meaning::is_marked))]
+#[tactic(auto, unfolding(crate::specs::Meaning::is_marked))]
 pub fn drops_labels(
     alloc: Global,
     rules: &Rules,
@@ -128,11 +155,14 @@ pub fn drops_labels(
         ≡ is_marked rules.now (option_copied soname.entry) (map plain_label labels.now) way) }
     ensures past { IfErr result (λ e. OnLimit e (PassesHandles rules.now.sections)) }
 {
-    let named = CompiledSections::chosen(alloc, rules.sections(), true)?;
-    let others = CompiledSections::chosen(alloc, rules.sections(), false)?;
-    let by_name = compiled_mark(alloc, &named, soname, labels, way)?;
-    let by_kind = compiled_mark(alloc, &others, soname, labels, way)?;
-    Ok(one_of(by_name, by_kind))
+    let reached = Reached {
+        soname,
+        labels,
+        way,
+    };
+    let named = chosen_mark(alloc, rules.sections(), true, &reached)?;
+    let others = chosen_mark(alloc, rules.sections(), false, &reached)?;
+    Ok(one_of(named, others))
 }
 
 // Whether sections that test no name drop an export. They drop all functions or none, and all variables or none.
@@ -269,12 +299,10 @@ fn compiled_flags(
     ensures past { IfErr result (λ e. OnLimit e (PassesCompiled compiled.now)) }
 {
     let mut ready = ReadyRules::of(alloc, compiled)?;
-    let flags = ready_flags(alloc, &mut ready, old)?;
-    Ok(flags)
+    ready_flags(alloc, &mut ready, old)
 }
 
 // The flags of the chosen sections: with `asking` those that test names, else the others.
-#[tactic(auto, using(crate::proofs::CrowdLemmas::chosen_pass))]
 fn chosen_flags(
     alloc: Global,
     sections: &[Section],
@@ -285,34 +313,39 @@ fn chosen_flags(
     ensures past { IfErr result (λ e. OnLimit e (PassesHandles sections.now)) }
 {
     let compiled = CompiledSections::chosen(alloc, sections, asking)?;
-    let flags = compiled_flags(alloc, &compiled, old)?;
-    Ok(flags)
+    compiled_flags(alloc, &compiled, old)
+}
+
+// Sets each flag that is set in another list.
+fn set_flags(flags: &mut [bool], other: &[bool])
+    requires { length flags.old ≡ length other.now }
+    ensures { flags.new ≡ either_of flags.old other.now }
+{
+    for i in 0..other.len() {
+        flags[i] = one_of(flags[i], other[i]);
+    }
 }
 
 // For each position, whether the flag there is set in one of two lists.
-fn either(alloc: Global, one: &[bool], other: &[bool]) -> Result<List<bool>, NoMemory>
-    requires { length one.now ≡ length other.now }
-    ensures is { IfOk result (λ flags. flags ≡ either_of one.now other.now) }
-    ensures named { IfErr result (λ e. e ≡ Allocation) }
+fn either(one: List<bool>, other: &[bool]) -> List<bool>
+    requires { length one ≡ length other.now }
+    ensures { result ≡ either_of one other.now }
 {
-    let mut flags = List::new(alloc);
-    for i in 0..one.len() {
-        flags.push(one_of(one[i], other[i]))?;
-    }
-    Ok(flags)
+    let mut flags = one.into_vec();
+    set_flags(flags.as_mut_slice(), other);
+    List::of(flags)
 }
 
 // Joins the flags of two lists of sections.
-fn either_flags(alloc: Global, one: &Flags, other: &Flags) -> Result<Flags, NoMemory>
-    requires { AreOfOneSize one.now other.now }
-    ensures is { IfOk result (AreEither one.now other.now) }
-    ensures named { IfErr result (λ e. e ≡ Allocation) }
+fn either_flags(one: Flags, other: &Flags) -> Flags
+    requires { AreOfOneSize one other.now }
+    ensures { AreEither one other.now result }
 {
-    Ok(Flags {
-        exports: either(alloc, one.exports.as_slice(), other.exports.as_slice())?,
-        direct: either(alloc, one.direct.as_slice(), other.direct.as_slice())?,
-        pointer: either(alloc, one.pointer.as_slice(), other.pointer.as_slice())?,
-    })
+    Flags {
+        exports: either(one.exports, other.exports.as_slice()),
+        direct: either(one.direct, other.direct.as_slice()),
+        pointer: either(one.pointer, other.pointer.as_slice()),
+    }
 }
 
 // The flags of the chosen sections: with `asking` those that test names, else the others. It takes the sections block by block, so
@@ -333,9 +366,31 @@ fn flags_of(
         let start = end;
         end = block_end(sections, start, asking);
         let more = chosen_flags(alloc, &sections[start..end], asking, old)?;
-        flags = either_flags(alloc, &flags, &more)?;
+        flags = either_flags(flags, &more);
     }
     Ok(flags)
+}
+
+// The flags of all sections.
+fn all_flags(alloc: Global, sections: &[Section], old: &Library<OldIx>) -> Result<Flags, NoMemory>
+    ensures is { IfOk result (AreFlags sections.now old.now) }
+    ensures past { IfErr result (λ e. OnLimit e (PassesHandles sections.now)) }
+{
+    let named = flags_of(alloc, sections, true, old)?;
+    let others = flags_of(alloc, sections, false, old)?;
+    Ok(either_flags(named, &others))
+}
+
+// Fails exactly where the soname or the patterns exceed a limit.
+fn check_limits(rules: &Rules, old: &Library<OldIx>) -> Result<(), NoMemory>
+    ensures within { OnOk result (AreModest rules.now old.now) }
+    ensures past { IfErr result (λ e. OnLimit e (MarksPass rules.now old.now)) }
+{
+    let sections = rules.sections();
+    check_soname(old.soname())?;
+    check_weight(sections)?;
+    check_letters(sections, old)?;
+    Ok(())
 }
 
 /// What a rule file suppresses in a library: the exports that it drops, and the nodes that it marks, by value and through a
@@ -348,13 +403,8 @@ pub fn marks(alloc: Global, rules: &Rules, old: &Library<OldIx>) -> Result<Marks
     ensures within { OnOk result (AreModest rules.now old.now) }
     ensures past { IfErr result (λ e. OnLimit e (MarksPass rules.now old.now)) }
 {
-    let sections = rules.sections();
-    check_soname(old.soname())?;
-    check_weight(sections)?;
-    check_letters(sections, old)?;
-    let named = flags_of(alloc, sections, true, old)?;
-    let others = flags_of(alloc, sections, false, old)?;
-    let flags = either_flags(alloc, &named, &others)?;
+    check_limits(rules, old)?;
+    let flags = all_flags(alloc, rules.sections(), old)?;
     let Flags {
         exports,
         direct,

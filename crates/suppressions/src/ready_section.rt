@@ -6,7 +6,7 @@ ghost use Rattle.std.specs.List.{list_all};
 ghost use Rattle.suppressions.specs.PlainHandles.{plain_handle};
 ghost use Rattle.suppressions.specs.PlainSubjects.{plain_subject};
 ghost use Rattle.suppressions.specs.Names as spec;
-ghost use Rattle.suppressions.specs.Handles.{gate_handle};
+ghost use Rattle.suppressions.specs.Handles.{gate_handle, handles_of};
 ghost use Rattle.suppressions.specs.Limits.{PassesCompiled};
 ghost use Rattle.suppressions.specs.Holding.{one_section_holds, IsLetIn, IsOneOfHandle};
 ghost use Rattle.suppressions.specs.Meaning.{property_holds, section_holds, some_section_holds};
@@ -95,6 +95,13 @@ fn kind_place(kind: SectionKind) -> u8
     }
 }
 
+// Whether a section is for subjects of this kind.
+fn speaks_of(section: &Section, subject: &Subject) -> bool
+    ensures { result ≡ meaning.speaks_of section.now (plain_subject subject.now) }
+{
+    kind_place(section.kind()) == kind_place(subject.kind)
+}
+
 impl<'c> ReadySection<'c> {
     /// Prepares a compiled section.
     pub fn of<'r>(
@@ -109,20 +116,13 @@ impl<'c> ReadySection<'c> {
         Ok(ReadySection { section, tests })
     }
 
-    // Whether the section is for subjects of this kind.
-    fn speaks_of(&self, subject: &Subject) -> bool
-        ensures { result ≡ meaning.speaks_of self.now (plain_subject subject.now) }
-    {
-        kind_place(self.section.kind()) == kind_place(subject.kind)
-    }
-
     /// Whether the section matches a subject: it is for this kind, and all its properties hold.
     #[tactic(auto, unfolding(crate::specs::Meaning::section_holds))]
     pub fn holds(&mut self, subject: &Subject) -> bool
         ensures holds { result ≡ section_holds (plain_subject subject.now) self.old }
         ensures same { self.new ≡ self.old }
     {
-        if !self.speaks_of(subject) {
+        if !speaks_of(self.section, subject) {
             return false;
         }
         all_hold(self.tests.as_mut_slice(), subject)
@@ -149,6 +149,23 @@ fn some_ask(compiled: &[CompiledSection]) -> bool
     ensures { result ≡ spec.some_ask compiled.now }
 {
     compiled.iter().any(|section| asks_names(section.section()))
+}
+
+// The order of compiled sections. Fails where some of them test names, as `asks` says, and too many are found by one.
+fn order_of<'r>(
+    alloc: Global,
+    sections: &[CompiledSection<'r>],
+    asks: bool,
+) -> Result<HandleOrder<'r>, NoMemory>
+    requires { asks ≡ spec.some_ask sections.now }
+    ensures is { IfOk result (λ order. order ≡ handles_of sections.now) }
+    ensures past { IfErr result (λ e. OnLimit e (PassesCompiled sections.now)) }
+{
+    let order = HandleOrder::of(alloc, sections)?;
+    if asks {
+        order.check_limit()?;
+    }
+    Ok(order)
 }
 
 // Whether one of the sections with these numbers matches a subject.
@@ -201,11 +218,8 @@ impl<'c> ReadyRules<'c> {
         ensures past { IfErr result (λ e. OnLimit e (PassesCompiled compiled.now)) }
     {
         let sections = ready_sections(alloc, compiled.sections())?;
-        let order = HandleOrder::of(alloc, compiled.sections())?;
         let asks = some_ask(compiled.sections());
-        if asks {
-            order.check_limit()?;
-        }
+        let order = order_of(alloc, compiled.sections(), asks)?;
         let gate = compiled.gate(alloc)?;
         Ok(ReadyRules {
             sections,

@@ -1,0 +1,19 @@
+use Rattle.std.proofs.Common.{◌≡◌, List, map, subst}
+use Rattle.std.specs.Prelude.{IfOk}
+use Rattle.std.specs.Option.{option_copied}
+use Rattle.std.proofs.lemmas.Result.{IfErr-weaker}
+use Rattle.abi_base.specs.Outcome.{OnLimit}
+use Rattle.abi_types.specs.Plain.{plain_label}
+use Rattle.suppression_text.specs.Rules.{PlainSection}
+use Rattle.suppressions.specs.Limits.{PassesCompiled, PassesHandles}
+use Rattle.suppressions.specs.Meaning.{marks_names}
+use Rattle.suppressions.proofs.CrowdLemmas.{chosen_pass}
+use Rattle.suppressions.proofs.marking.chosen_mark.Goals as goal
+
+pub returns-clause-is : goal.returns-clause-is
+returns-clause-is c = subst (λ (ss : List PlainSection). IfOk c.compiled_mark.result (λ mark. mark ≡ marks_names ss (option_copied c.args.reached.now.soname) c.args.reached.now.way (map plain_label c.args.reached.now.labels.now))) c.in_ok-compiled.ensures.is c.compiled_mark.ensures.is
+
+pub returns-clause-past : goal.returns-clause-past
+returns-clause-past c =
+    IfErr-weaker c.compiled_mark.result (λ e. OnLimit e (PassesCompiled c.in_ok-compiled.compiled)) (λ e. OnLimit e (PassesHandles c.args.sections.now))
+    (λ e h. chosen_pass e c.args.asking c.args.sections.now c.in_ok-compiled.compiled c.in_ok-compiled.ensures.is h) c.compiled_mark.ensures.past
