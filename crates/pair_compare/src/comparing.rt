@@ -54,10 +54,10 @@ pub trait View {
 
 // What a view shows of two libraries, by graphs, roots and classes that are theirs.
 #[tactic(auto, using(crate::proofs::Passing::types_pass, crate::proofs::Passing::view_passes))]
-fn viewed<'x, 'o, 'n, 'og, 'oc, 'ng, 'nc, V: View, L: Ledger>(
+fn viewed<'x, 'c, 'o, 'n, V: View, L: Ledger>(
     alloc: Global,
     pair: &'x BoundPair<'x, 'o, 'n>,
-    graphs: &'x GraphPair<'x, 'o, 'n, 'og, 'oc, 'ng, 'nc>,
+    graphs: &'x GraphPair<'x, 'o, 'n, 'c, 'o, 'c, 'n>,
     view: &V,
     steps: &mut Steps<L>,
 ) -> Result<V::Shown, NoMemory>

@@ -21,11 +21,11 @@ use std::sync::ledger::Ledger;
 use type_classes::Classes;
 
 /// All pairs of types to which the compared exports lead, and the rules that they break. It takes at most one step for each pair.
-pub fn explore_types<L: Ledger>(
+pub fn explore_types<'x, 'c, 'o, 'n, L: Ledger>(
     alloc: Global,
-    pair: &BoundPair,
-    old_classes: &Classes<OldIx>,
-    new_classes: &Classes<NewIx>,
+    pair: &'x BoundPair<'x, 'o, 'n>,
+    old_classes: &'x Classes<'c, 'o, OldIx>,
+    new_classes: &'x Classes<'c, 'n, NewIx>,
     steps: &mut Steps<L>,
 ) -> Result<Explored, NoMemory>
     requires bound { IsBinding pair.now }

@@ -1,5 +1,5 @@
 -- The notes on two libraries.
-use Rattle.std.specs.Prelude.{◌≡◌, ◌<◌, ℕ, ◌==◌, Bool, false, if◌then◌else◌, List, [], ◌++◌, length, map, nat_eq, take, Option, Some, None, option_to_list, slice_get}
+use Rattle.std.specs.Prelude.{◌≡◌, ◌<◌, ℕ, ◌==◌, Bool, false, if◌then◌else◌, List, [], ◌++◌, ◌||◌, length, map, nat_eq, take, Option, Some, None, option_to_list, slice_get}
 use Rattle.std.specs.List.{flat_map, list_any, range_with_len}
 use Rattle.std.specs.HashSet.{HashSet, contains}
 use Rattle.std.specs.declared.hash.FoldHasher.{FoldHasher}
@@ -19,12 +19,15 @@ use Rattle.pair_compare.specs.BoundPair.{sides_of}
 use Rattle.pair_compare.specs.Explored.{scope_of}
 use Rattle.pair_compare.specs.reports.Findings.{export_of}
 use Rattle.pair_compare.specs.reports.PathTexts.{label_at, steps_text, IsWalk}
+use Rattle.type_notes.specs.declared.definitions.DefinitionPair.{DefinitionPair}
 use Rattle.type_notes.specs.declared.difference.Difference.{Difference}
 use Rattle.type_notes.specs.declared.note.Note.{Note}
 use Rattle.type_notes.specs.declared.noted_pair.NotedPair.{NotedPair}
+use Rattle.type_notes.specs.declared.type_pair.Packed.{Packed}
 use Rattle.type_notes.specs.Between.{differences}
 use Rattle.type_notes.specs.Chains.{core_at}
-use Rattle.type_notes.specs.DefinedElsewhere.{definitions_behind, kin_change, kin_of}
+use Rattle.type_notes.specs.DefinedElsewhere.{AreOfBoth, definitions_behind, kin_change, kin_of}
+use Rattle.type_notes.specs.TypePairs.{ArePacked}
 
 -- two libraries with marks, and the debug entries of both
 pub record PlainPair : Type 0 where
@@ -34,6 +37,14 @@ pub record PlainPair : Type 0 where
 
 abbrev pub noted_pair : NotedPair → PlainPair
 noted_pair p = record { sides = sides_of p.pair; old_dwarf = p.old_dwarf.now; new_dwarf = p.new_dwarf.now }
+
+-- the maps hold the definitions of both libraries' types
+abbrev pub AreDefinedIn : NotedPair → DefinitionPair → Type 0
+AreDefinedIn p definitions = AreOfBoth p.old_dwarf.now p.new_dwarf.now definitions
+
+-- the lists say of each type of both libraries whether it is packed
+abbrev pub ArePackedIn : NotedPair → Packed → Type 0
+ArePackedIn p packed = ArePacked p.pair.old.now.graph p.pair.new.now.graph packed
 
 -- ---- one visit
 
@@ -136,6 +147,19 @@ pub record AreReadable (s : Sides) (visits : List Visit) : Type 0 where
 
 abbrev pub Numbers : Type 0
 Numbers = HashSet ℕ (BuildHasherDefault FoldHasher)
+
+-- the change of a definition, unless the set holds the old one
+abbrev pub changes_beside : Numbers → PlainPair → Option (ℕ × ℕ) → List Difference
+changes_beside compared p definitions = change_unless (contains nat_eq compared) p definitions
+
+-- the change of the definition behind the types of a visit, unless the set holds the old one
+abbrev pub changes_at : Numbers → PlainPair → Visit → List Difference
+changes_at compared p v = changes_beside compared p (defined_behind p v)
+
+-- the set after it holds what it held before, and the old one of the definitions
+abbrev pub Joins : Option (ℕ × ℕ) → Numbers → Numbers → Type 0
+Joins definitions before after =
+    (a : ℕ) → contains nat_eq after a ≡ (contains nat_eq before a || is_of a definitions)
 
 -- the set holds the old definitions that are compared at the first visits
 pub record AreCompared (p : PlainPair) (visits : List Visit) (n : ℕ) (compared : Numbers) : Type 0 where

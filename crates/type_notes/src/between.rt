@@ -19,12 +19,12 @@ use dwarf_forms::DebugInfoOffset;
 use std::alloc::Global;
 
 /// The debug entries of two libraries.
-#[derive(Clone, Copy)]
-pub struct DwarfPair<'x, 'o, 'n> {
+#[derive(Drop)]
+pub struct DwarfPair<'x, 'd> {
     /// The entries of the old library.
-    pub old: &'x Dwarf<'o>,
+    pub old: &'x Dwarf<'d>,
     /// The entries of the new library.
-    pub new: &'x Dwarf<'n>,
+    pub new: &'x Dwarf<'d>,
 }
 
 // Adds the differences of two entries as types, if both exist.

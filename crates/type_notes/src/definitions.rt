@@ -29,12 +29,12 @@ pub struct Definitions<'a> {
 }
 
 /// The definitions of two libraries.
-#[derive(Clone, Copy)]
-pub struct DefinitionPair<'x, 'o, 'n> {
+#[derive(Drop)]
+pub struct DefinitionPair<'x, 'd> {
     /// The definitions of the old library.
-    pub old: &'x Definitions<'o>,
+    pub old: &'x Definitions<'d>,
     /// The definitions of the new library.
-    pub new: &'x Definitions<'n>,
+    pub new: &'x Definitions<'d>,
 }
 
 // Removes the numbers under a name from the map, and returns them.

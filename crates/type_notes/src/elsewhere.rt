@@ -141,12 +141,12 @@ fn entry_at(dwarf: &Dwarf, entries: &[EntryNumber], place: usize) -> Option<Entr
 }
 
 // The definitions of a tag and a name in two libraries.
-#[derive(Clone, Copy)]
-pub(crate) struct Kin<'x, 'o, 'n> {
+#[derive(Drop)]
+pub(crate) struct Kin<'x, 'd> {
     /// The debug entries of the old library.
-    pub old_dwarf: &'x Dwarf<'o>,
+    pub old_dwarf: &'x Dwarf<'d>,
     /// The debug entries of the new library.
-    pub new_dwarf: &'x Dwarf<'n>,
+    pub new_dwarf: &'x Dwarf<'d>,
     /// The numbers of the old definitions.
     pub old: &'x [EntryNumber],
     /// The numbers of the new definitions.

@@ -13,12 +13,12 @@ use std::alloc::Global;
 use type_reach::role_of;
 
 /// An entry of an old library, and the entry of a new library that takes its place.
-#[derive(Clone, Copy)]
-pub struct EntryPair<'x, 'o, 'n> {
+#[derive(Drop)]
+pub struct EntryPair<'x, 'd> {
     /// The debug entries of the old library.
-    pub old_dwarf: &'x Dwarf<'o>,
+    pub old_dwarf: &'x Dwarf<'d>,
     /// The debug entries of the new library.
-    pub new_dwarf: &'x Dwarf<'n>,
+    pub new_dwarf: &'x Dwarf<'d>,
     /// The number of the old entry.
     pub old: EntryNumber,
     /// The number of the new entry.

@@ -62,7 +62,7 @@ pub enum NoteKind {
 }
 
 /// What a difference may do to callers that were compiled against the old library.
-#[derive(Clone, Copy, PartialEq, Eq)]
+#[derive(Drop)]
 pub enum NoteWeight {
     /// It can break callers, though no rule judges it.
     CanBreakCallers,

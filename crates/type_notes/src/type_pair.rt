@@ -11,7 +11,7 @@ pub struct Packed<'x> {
 }
 
 /// A type of an old library, and the type of a new library that takes its place.
-#[derive(Clone, Copy)]
+#[derive(Drop)]
 pub struct TypePair<'x, 'o, 'n> {
     /// The graph of the old library's types.
     pub old_graph: &'x Graph<'o, OldIx>,

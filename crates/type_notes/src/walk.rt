@@ -1,15 +1,12 @@
 // The notes on all types that are compared between two libraries.
-ghost use Rattle.std.specs.Prelude.{◌≡◌, ◌<◌, ◌+◌, ◌++◌, ◌||◌, ℕ, length, map, nat_eq, All, IfOk, IfSome, OnOk};
-ghost use Rattle.std.specs.HashSet.{contains};
+ghost use Rattle.std.specs.Prelude.{◌≡◌, ◌<◌, ◌+◌, ◌++◌, length, map, All, IfOk, IfSome, OnOk};
 ghost use Rattle.pair_compare.specs.BoundPair.{IsBinding, sides_of};
 ghost use Rattle.pair_compare.specs.Marking.{AreMarksOf};
 ghost use Rattle.pair_explorer.specs.Visits.{AreEarlier};
 ghost use Rattle.pair_rules.specs.Steps as steps_spec;
 ghost use Rattle.cert_check.specs.Compatible.{task_of};
-ghost use Rattle.type_notes.specs.DefinedElsewhere.{AreOfBoth, definitions_behind};
 ghost use Rattle.type_notes.specs.DefinedElsewhere as elsewhere_spec;
-ghost use Rattle.type_notes.specs.TypePairs.{ArePacked};
-ghost use Rattle.type_notes.specs.NotedPairs.{AreAlone, AreCompared, AreNotes, AreReadable, IsReadable, change_behind, change_unless, defined_behind, difference_note, differences_of, is_of, new_core, noted_at, noted_pair, notes_at, notes_below, old_core};
+ghost use Rattle.type_notes.specs.NotedPairs.{AreAlone, AreCompared, AreDefinedIn, AreNotes, ArePackedIn, AreReadable, IsReadable, Joins, change_behind, changes_at, changes_beside, defined_behind, difference_note, differences_of, new_core, noted_at, noted_pair, notes_at, notes_below, old_core};
 
 use crate::between::{DwarfPair, push_differences};
 use crate::chain::core_at;
@@ -83,7 +80,7 @@ fn push_all(
 }
 
 // The debug entries of both libraries.
-fn dwarfs_of<'x, 'd, 'e>(ground: &NotedPair<'x, '_, '_, 'd, 'e>) -> DwarfPair<'x, 'd, 'e>
+fn dwarfs_of<'x, 'd>(ground: &NotedPair<'x, '_, '_, 'd>) -> DwarfPair<'x, 'd>
     ensures old { result.old.now ≡ ground.now.old_dwarf.now }
     ensures new { result.new.now ≡ ground.now.new_dwarf.now }
 {
@@ -95,7 +92,7 @@ fn dwarfs_of<'x, 'd, 'e>(ground: &NotedPair<'x, '_, '_, 'd, 'e>) -> DwarfPair<'x
 
 // The types of a visit, with the lists of which nodes are packed.
 fn types_at<'x, 'o, 'n>(
-    ground: &NotedPair<'x, 'o, 'n, '_, '_>,
+    ground: &NotedPair<'x, 'o, 'n, '_>,
     packed: Packed<'x>,
     visit: &Visit,
 ) -> TypePair<'x, 'o, 'n>
@@ -116,13 +113,13 @@ fn types_at<'x, 'o, 'n>(
 }
 
 // The differences between the types of a visit, by the lists of which nodes are packed.
-fn differences_at(
+fn differences_at<'x, 'o, 'n, 'd>(
     alloc: Global,
-    ground: &NotedPair,
-    packed: &Packed,
+    ground: &'x NotedPair<'x, 'o, 'n, 'd>,
+    packed: &'x Packed<'x>,
     visit: &Visit,
 ) -> Result<List<Difference>, NoMemory>
-    requires packed { ArePacked ground.now.pair.old.now.graph ground.now.pair.new.now.graph packed.now }
+    requires packed { ArePackedIn ground.now packed.now }
     requires old { visit.now.old < length ground.now.pair.old.now.graph }
     requires new { visit.now.new < length ground.now.pair.new.now.graph }
     ensures { IfOk result (λ list. list ≡ differences_of (noted_pair ground.now) visit.now) }
@@ -155,15 +152,15 @@ fn new_core_at(ground: &NotedPair, visit: &Visit) -> Option<EntryNumber>
 }
 
 // The definitions of the types of a visit, if at least one of them is only declared.
-fn definitions_of_types(
-    ground: &NotedPair,
-    definitions: &DefinitionPair,
+fn definitions_of_types<'x, 'o, 'n, 'd>(
+    ground: &'x NotedPair<'x, 'o, 'n, 'd>,
+    definitions: &'x DefinitionPair<'x, 'd>,
     visit: &Visit,
 ) -> Option<(EntryNumber, EntryNumber)>
-    requires definitions { AreOfBoth ground.now.old_dwarf.now ground.now.new_dwarf.now definitions.now }
+    requires definitions { AreDefinedIn ground.now definitions.now }
     requires old { visit.now.old < length ground.now.pair.old.now.graph }
     requires new { visit.now.new < length ground.now.pair.new.now.graph }
-    ensures found { result ≡ definitions_behind ground.now.old_dwarf.now ground.now.new_dwarf.now (old_core (noted_pair ground.now) visit.now) (new_core (noted_pair ground.now) visit.now) }
+    ensures found { result ≡ defined_behind (noted_pair ground.now) visit.now }
     ensures old { IfSome result (λ found. found.0 < length ground.now.old_dwarf.now.tree.entries) }
     ensures new { IfSome result (λ found. found.1 < length ground.now.new_dwarf.now.tree.entries) }
 {
@@ -184,10 +181,10 @@ fn definitions_of_types(
 }
 
 // Adds the notes on differences at a visit, with the path to it.
-fn push_under_path(
+fn push_under_path<'x, 'o, 'n, 'd>(
     notes: &mut List<Note>,
-    ground: &NotedPair,
-    place: (&Visits, usize),
+    ground: &'x NotedPair<'x, 'o, 'n, 'd>,
+    place: (&'x Visits, usize),
     found: &[Difference],
     room: &mut NoteRoom,
 ) -> Result<(), NoMemory>
@@ -206,10 +203,10 @@ fn push_under_path(
 }
 
 // The input of the walk: the libraries with their definitions and packed nodes, and what was explored.
-#[derive(Clone, Copy)]
-struct Walk<'w, 'x, 'o, 'n, 'd, 'e> {
-    ground: &'w NotedPair<'x, 'o, 'n, 'd, 'e>,
-    definitions: &'w DefinitionPair<'w, 'd, 'e>,
+#[derive(Drop)]
+struct Walk<'w, 'o, 'n, 'd> {
+    ground: &'w NotedPair<'w, 'o, 'n, 'd>,
+    definitions: &'w DefinitionPair<'w, 'd>,
     packed: Packed<'w>,
     visits: &'w Visits,
 }
@@ -226,12 +223,12 @@ fn change_of_kin(kin: &Kin, room: &mut NoteRoom) -> Result<Option<Difference>, N
 }
 
 // The difference between all definitions of the tags and names of two definitions.
-fn change_of(
-    walk: &Walk,
+fn change_of<'w, 'o, 'n, 'd>(
+    walk: &'w Walk<'w, 'o, 'n, 'd>,
     found: (EntryNumber, EntryNumber),
     room: &mut NoteRoom,
 ) -> Result<Option<Difference>, NoMemory>
-    requires definitions { AreOfBoth walk.now.ground.now.old_dwarf.now walk.now.ground.now.new_dwarf.now walk.now.definitions.now }
+    requires definitions { AreDefinedIn walk.now.ground.now walk.now.definitions.now }
     requires old { found.0 < length walk.now.ground.now.old_dwarf.now.tree.entries }
     requires new { found.1 < length walk.now.ground.now.new_dwarf.now.tree.entries }
     ensures { IfOk result (λ change. change ≡ change_behind (noted_pair walk.now.ground.now) found.0 found.1) }
@@ -250,20 +247,19 @@ fn change_of(
 }
 
 // Adds the difference between two definitions, unless the old one was compared before, and records it as compared.
-fn push_definitions(
+fn push_definitions<'w, 'o, 'n, 'd>(
     list: &mut List<Difference>,
     compared: &mut HashSet<usize>,
-    walk: &Walk,
+    walk: &'w Walk<'w, 'o, 'n, 'd>,
     found: Option<(EntryNumber, EntryNumber)>,
     room: &mut NoteRoom,
 ) -> Result<(), NoMemory>
-    requires definitions { AreOfBoth walk.now.ground.now.old_dwarf.now walk.now.ground.now.new_dwarf.now walk.now.definitions.now }
+    requires definitions { AreDefinedIn walk.now.ground.now walk.now.definitions.now }
     requires old { IfSome found (λ found. found.0 < length walk.now.ground.now.old_dwarf.now.tree.entries) }
     requires new { IfSome found (λ found. found.1 < length walk.now.ground.now.new_dwarf.now.tree.entries) }
     ensures list { OnOk result (list.new
-        ≡ list.old ++ change_unless (contains nat_eq compared.old) (noted_pair walk.now.ground.now) found) }
-    ensures compared { OnOk result ((a : ℕ) → contains nat_eq compared.new a
-        ≡ (contains nat_eq compared.old a || is_of a found)) }
+        ≡ list.old ++ changes_beside compared.old (noted_pair walk.now.ground.now) found) }
+    ensures compared { OnOk result (Joins found compared.old compared.new) }
 {
     let found = match found {
         Some(found) => found,
@@ -276,20 +272,19 @@ fn push_definitions(
 }
 
 // Adds the difference between the definitions behind the types of a visit, unless the old one was compared before.
-fn push_defined(
+fn push_defined<'w, 'o, 'n, 'd>(
     list: &mut List<Difference>,
     compared: &mut HashSet<usize>,
-    walk: &Walk,
+    walk: &'w Walk<'w, 'o, 'n, 'd>,
     visit: &Visit,
     room: &mut NoteRoom,
 ) -> Result<(), NoMemory>
-    requires definitions { AreOfBoth walk.now.ground.now.old_dwarf.now walk.now.ground.now.new_dwarf.now walk.now.definitions.now }
+    requires definitions { AreDefinedIn walk.now.ground.now walk.now.definitions.now }
     requires old { visit.now.old < length walk.now.ground.now.pair.old.now.graph }
     requires new { visit.now.new < length walk.now.ground.now.pair.new.now.graph }
     ensures list { OnOk result (list.new
-        ≡ list.old ++ change_unless (contains nat_eq compared.old) (noted_pair walk.now.ground.now) (defined_behind (noted_pair walk.now.ground.now) visit.now)) }
-    ensures compared { OnOk result ((a : ℕ) → contains nat_eq compared.new a
-        ≡ (contains nat_eq compared.old a || is_of a (defined_behind (noted_pair walk.now.ground.now) visit.now))) }
+        ≡ list.old ++ changes_at compared.old (noted_pair walk.now.ground.now) visit.now) }
+    ensures compared { OnOk result (Joins (defined_behind (noted_pair walk.now.ground.now) visit.now) compared.old compared.new) }
 {
     let defined = definitions_of_types(walk.ground, walk.definitions, visit);
     push_definitions(list, compared, walk, defined, room)
@@ -297,20 +292,19 @@ fn push_defined(
 
 // The differences at a visit: those of its types, and that of the definitions behind them, unless the old one was compared before. The
 // room takes the types first.
-fn found_at(
+fn found_at<'w, 'o, 'n, 'd>(
     compared: &mut HashSet<usize>,
-    walk: &Walk,
+    walk: &'w Walk<'w, 'o, 'n, 'd>,
     visit: &Visit,
     room: &mut NoteRoom,
 ) -> Result<List<Difference>, NoMemory>
-    requires definitions { AreOfBoth walk.now.ground.now.old_dwarf.now walk.now.ground.now.new_dwarf.now walk.now.definitions.now }
-    requires packed { ArePacked walk.now.ground.now.pair.old.now.graph walk.now.ground.now.pair.new.now.graph walk.now.packed }
+    requires definitions { AreDefinedIn walk.now.ground.now walk.now.definitions.now }
+    requires packed { ArePackedIn walk.now.ground.now walk.now.packed }
     requires old { visit.now.old < length walk.now.ground.now.pair.old.now.graph }
     requires new { visit.now.new < length walk.now.ground.now.pair.new.now.graph }
     ensures found { IfOk result (λ found. found
-        ≡ differences_of (noted_pair walk.now.ground.now) visit.now ++ change_unless (contains nat_eq compared.old) (noted_pair walk.now.ground.now) (defined_behind (noted_pair walk.now.ground.now) visit.now)) }
-    ensures compared { OnOk result ((a : ℕ) → contains nat_eq compared.new a
-        ≡ (contains nat_eq compared.old a || is_of a (defined_behind (noted_pair walk.now.ground.now) visit.now))) }
+        ≡ differences_of (noted_pair walk.now.ground.now) visit.now ++ changes_at compared.old (noted_pair walk.now.ground.now) visit.now) }
+    ensures compared { OnOk result (Joins (defined_behind (noted_pair walk.now.ground.now) visit.now) compared.old compared.new) }
 {
     room.take_visit(walk.ground, visit)?;
     let mut found = differences_at(room.alloc, walk.ground, &walk.packed, visit)?;
@@ -320,15 +314,15 @@ fn found_at(
 
 // Adds the notes of a visit.
 #[tactic(auto, unfolding(crate::specs::NotedPairs::notes_at, crate::specs::NotedPairs::definitions_at))]
-fn push_visit(
+fn push_visit<'w, 'o, 'n, 'd>(
     notes: &mut List<Note>,
     compared: &mut HashSet<usize>,
-    walk: &Walk,
+    walk: &'w Walk<'w, 'o, 'n, 'd>,
     number: usize,
     room: &mut NoteRoom,
 ) -> Result<(), NoMemory>
-    requires definitions { AreOfBoth walk.now.ground.now.old_dwarf.now walk.now.ground.now.new_dwarf.now walk.now.definitions.now }
-    requires packed { ArePacked walk.now.ground.now.pair.old.now.graph walk.now.ground.now.pair.new.now.graph walk.now.packed }
+    requires definitions { AreDefinedIn walk.now.ground.now walk.now.definitions.now }
+    requires packed { ArePackedIn walk.now.ground.now walk.now.packed }
     requires readable { IsReadable (sides_of walk.now.ground.now.pair) walk.now.visits.now number }
     requires earlier { AreEarlier walk.now.visits.now }
     requires compared { AreCompared (noted_pair walk.now.ground.now) walk.now.visits.now number compared.old }
@@ -354,9 +348,12 @@ fn push_visit(
 }
 
 // The notes of all visits, in order, in what is left of the room.
-fn notes_along(walk: &Walk, room: &mut NoteRoom) -> Result<List<Note>, NoMemory>
-    requires definitions { AreOfBoth walk.now.ground.now.old_dwarf.now walk.now.ground.now.new_dwarf.now walk.now.definitions.now }
-    requires packed { ArePacked walk.now.ground.now.pair.old.now.graph walk.now.ground.now.pair.new.now.graph walk.now.packed }
+fn notes_along<'w, 'o, 'n, 'd>(
+    walk: &'w Walk<'w, 'o, 'n, 'd>,
+    room: &mut NoteRoom,
+) -> Result<List<Note>, NoMemory>
+    requires definitions { AreDefinedIn walk.now.ground.now walk.now.definitions.now }
+    requires packed { ArePackedIn walk.now.ground.now walk.now.packed }
     requires readable { AreReadable (sides_of walk.now.ground.now.pair) walk.now.visits.now }
     ensures { IfOk result (λ notes. notes
         ≡ notes_below (noted_pair walk.now.ground.now) walk.now.visits.now (length walk.now.visits.now)) }
@@ -370,15 +367,15 @@ fn notes_along(walk: &Walk, room: &mut NoteRoom) -> Result<List<Note>, NoMemory>
 }
 
 // The notes of all visits, in order, by the definitions and the packed nodes of both libraries.
-fn notes_by_packed<'w, 'x, 'o, 'n, 'd, 'e>(
-    ground: &'w NotedPair<'x, 'o, 'n, 'd, 'e>,
-    definitions: &'w DefinitionPair<'w, 'd, 'e>,
+fn notes_by_packed<'w, 'o, 'n, 'd>(
+    ground: &'w NotedPair<'w, 'o, 'n, 'd>,
+    definitions: &'w DefinitionPair<'w, 'd>,
     packed: Packed<'w>,
     visits: &'w Visits,
     room: &mut NoteRoom,
 ) -> Result<List<Note>, NoMemory>
-    requires definitions { AreOfBoth ground.now.old_dwarf.now ground.now.new_dwarf.now definitions.now }
-    requires packed { ArePacked ground.now.pair.old.now.graph ground.now.pair.new.now.graph packed }
+    requires definitions { AreDefinedIn ground.now definitions.now }
+    requires packed { ArePackedIn ground.now packed }
     requires readable { AreReadable (sides_of ground.now.pair) visits.now }
     ensures { IfOk result (λ notes. notes ≡ notes_below (noted_pair ground.now) visits.now (length visits.now)) }
 {
@@ -392,13 +389,13 @@ fn notes_by_packed<'w, 'x, 'o, 'n, 'd, 'e>(
 }
 
 // The notes of all visits, in order, by the definitions of both libraries; it first collects the packed nodes.
-fn notes_with_packed<'w, 'x, 'o, 'n, 'd, 'e>(
-    ground: &'w NotedPair<'x, 'o, 'n, 'd, 'e>,
-    definitions: &'w DefinitionPair<'w, 'd, 'e>,
+fn notes_with_packed<'w, 'o, 'n, 'd>(
+    ground: &'w NotedPair<'w, 'o, 'n, 'd>,
+    definitions: &'w DefinitionPair<'w, 'd>,
     visits: &'w Visits,
     room: &mut NoteRoom,
 ) -> Result<List<Note>, NoMemory>
-    requires definitions { AreOfBoth ground.now.old_dwarf.now ground.now.new_dwarf.now definitions.now }
+    requires definitions { AreDefinedIn ground.now definitions.now }
     requires readable { AreReadable (sides_of ground.now.pair) visits.now }
     ensures { IfOk result (λ notes. notes ≡ notes_below (noted_pair ground.now) visits.now (length visits.now)) }
 {
@@ -412,9 +409,9 @@ fn notes_with_packed<'w, 'x, 'o, 'n, 'd, 'e>(
 }
 
 // The notes of all visits, in order, in a room; it first collects the definitions and the packed nodes of both libraries.
-fn notes_with_definitions(
-    ground: &NotedPair,
-    visits: &Visits,
+fn notes_with_definitions<'x, 'o, 'n, 'd>(
+    ground: &'x NotedPair<'x, 'o, 'n, 'd>,
+    visits: &'x Visits,
     room: &mut NoteRoom,
 ) -> Result<List<Note>, NoMemory>
     requires { AreReadable (sides_of ground.now.pair) visits.now }
@@ -430,10 +427,10 @@ fn notes_with_definitions(
 }
 
 // The notes of all visits, in order.
-fn notes_of_visits(
+fn notes_of_visits<'x, 'o, 'n, 'd>(
     alloc: Global,
-    ground: &NotedPair,
-    visits: &Visits,
+    ground: &'x NotedPair<'x, 'o, 'n, 'd>,
+    visits: &'x Visits,
 ) -> Result<List<Note>, NoMemory>
     requires { AreReadable (sides_of ground.now.pair) visits.now }
     ensures { IfOk result (λ notes. notes ≡ notes_below (noted_pair ground.now) visits.now (length visits.now)) }
@@ -443,11 +440,11 @@ fn notes_of_visits(
 }
 
 // The notes on two libraries, by classes in which each type stands for itself.
-fn notes_of_classes<L: Ledger>(
+fn notes_of_classes<'x, 'c, 'o, 'n, 'd, L: Ledger>(
     alloc: Global,
-    ground: &NotedPair,
-    old_classes: &Classes<OldIx>,
-    new_classes: &Classes<NewIx>,
+    ground: &'x NotedPair<'x, 'o, 'n, 'd>,
+    old_classes: &'x Classes<'c, 'o, OldIx>,
+    new_classes: &'x Classes<'c, 'n, NewIx>,
     steps: &mut Steps<L>,
 ) -> Result<List<Note>, NoMemory>
     requires bound { IsBinding ground.now.pair }

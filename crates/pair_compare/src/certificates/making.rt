@@ -51,12 +51,12 @@ fn lines_have_numbers(
 }
 
 /// The certificate of two libraries, from a search that found no break. The checker accepts it.
-pub fn make_cert(
+pub fn make_cert<'x, 'c, 'o, 'n>(
     alloc: Global,
-    pair: &BoundPair,
-    old_classes: &Classes<OldIx>,
-    new_classes: &Classes<NewIx>,
-    visits: &Visits,
+    pair: &'x BoundPair<'x, 'o, 'n>,
+    old_classes: &'x Classes<'c, 'o, OldIx>,
+    new_classes: &'x Classes<'c, 'n, NewIx>,
+    visits: &'x Visits,
 ) -> Result<Cert, NoMemory>
     requires exports { AreBound (sides_of pair.now) }
     requires types { IsUnbroken (sides_of pair.now) old_classes.now new_classes.now visits.now }
