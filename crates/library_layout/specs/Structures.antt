@@ -1,15 +1,17 @@
 -- The layout of a structure in a graph, and the structures of a graph by tag.
-use Rattle.std.specs.Prelude.{◌≡◌, ◌≢◌, ◌<◌, ◌&&◌, ℕ, Bool, true, false, List, length, All, Contains, Option, Some, None}
+use Rattle.std.specs.Prelude.{◌≡◌, ◌≢◌, ◌<◌, ◌≤◌, ◌&&◌, ℕ, Bool, true, false, List, [], length, All, Contains, IsSomeAnd, Option, Some, None, nat_eq, take}
 use Rattle.std.specs.List.{AllPairs}
 use Rattle.std.specs.Str.{bytes_eq}
 use Rattle.abi_types.specs.declared.kind.Kind.{Kind}
 use Rattle.abi_types.specs.declared.kind.Kind.TheVariants as kind
 use Rattle.abi_types.specs.Types.{PlainNode, PlainView}
 use Rattle.abi_types.specs.Graphs.{view_at}
+use Rattle.strsim.specs.Edits.{levenshtein_row}
 use Rattle.type_print.specs.declared.row.LayoutRow.{LayoutRow}
 use Rattle.type_print.specs.Laws.{CoverEachBitOnce, IsClean, NameClashes}
 use Rattle.type_print.specs.Structures.{bits_at, has_layout, is_structure, members_at, AreRowsAt, IsFirstTagged, IsUntagged}
 use Rattle.type_print.specs.Texts.{layout_text}
+use Rattle.library_layout.specs.declared.near.Near.{Near}
 use Rattle.library_layout.specs.declared.layouts.Layout.{Layout}
 use Rattle.library_layout.specs.declared.layouts.Layout.TheVariants.{Lines, NoTag}
 use Rattle.library_layout.specs.declared.others.OtherTag.{OtherTag}
@@ -91,3 +93,35 @@ pub record IsNewTagIn (nodes : List PlainNode) (tags : List (List ℕ)) (tag : L
 pub record AreTagsIn (nodes : List PlainNode) (tags : List (List ℕ)) : Type 0 where
   pub there : All (IsTagIn nodes) tags
   pub apart : AllPairs (λ a b. a ≢ b) tags
+
+-- ---- near tags
+
+-- the distance between two tags: the least number of bytes to insert, to delete or to substitute on the way from the first 64 bytes
+-- of one to the first 64 bytes of the other (Levenshtein)
+abbrev pub distance : (tag other : List ℕ) → ℕ
+distance tag other = levenshtein_row nat_eq (take 64 tag) (take 64 other) (length (take 64 other))
+
+-- the tag is as near to the wanted one as the other tag, or nearer
+abbrev pub IsAsNear : (wanted tag other : List ℕ) → Type 0
+IsAsNear wanted tag other = distance tag wanted ≤ distance other wanted
+
+-- a structure with a definition has the tag, which is not empty and none of these
+abbrev pub IsLeftOut : List PlainNode → List (List ℕ) → List ℕ → Type 0
+IsLeftOut nodes tags tag = IsNewTagIn nodes tags tag × (tag ≢ [])
+
+-- The tags are in order of their distance from the wanted one, and no tag that is left out is nearer than any of these. A tag is left
+-- out only if there are five.
+pub record AreNearestIn (nodes : List PlainNode) (wanted : List ℕ) (tags : List (List ℕ)) : Type 0 where
+  pub ordered : AllPairs (IsAsNear wanted) tags
+  pub nearer : (other : List ℕ) → IsLeftOut nodes tags other → All (λ tag. IsAsNear wanted tag other) tags
+  pub full : (other : List ℕ) → IsLeftOut nodes tags other → length tags ≡ 5
+
+-- if a type is a structure with a definition and a tag that is not empty, its tag is one of these or that of what was found
+abbrev pub PassesType : PlainView → List (List ℕ) → Option Near → Type 0
+PassesType v tags found =
+    (other : List ℕ) → has_layout v other ≡ true → other ≢ [] → ¬ Contains tags other → IsSomeAnd found (λ near. near.tag.now ≡ other)
+
+-- a tag was found that is as near as each one that is left out
+abbrev pub IsNearestBeside : List PlainNode → List ℕ → List (List ℕ) → Option (List ℕ) → Type 0
+IsNearestBeside nodes wanted tags found =
+    (other : List ℕ) → IsLeftOut nodes tags other → IsSomeAnd found (λ tag. IsAsNear wanted tag other)

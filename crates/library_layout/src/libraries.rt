@@ -7,7 +7,7 @@ ghost use Rattle.library_read.specs.Limits.{LibraryPasses};
 ghost use Rattle.library_layout.specs.Covers.{LaysEachBit};
 ghost use Rattle.library_layout.specs.Layouts.{IsLaid, IsUnlaid};
 ghost use Rattle.library_layout.specs.Limits.{LayoutPasses, OnNoLayout};
-ghost use Rattle.library_layout.specs.Near.{AreNearTags, IsDeclaredTag, IsOtherTag};
+ghost use Rattle.library_layout.specs.Near.{AreNearTags, AreNearestTags, IsDeclaredTag, IsOtherTag};
 
 use crate::laws::a_layout_covers_each_bit;
 use crate::layouts::{Layout, is_declared, laid_in};
@@ -84,6 +84,7 @@ pub fn near_tags<'a>(alloc: Global, library: &'a [u8], tag: &str) -> Result<Near
     ensures readable { OnOk result (library_fault library.now ≡ None) }
     ensures few { IfOk result (λ near. length near.tags.items ≤ 5) }
     ensures reached { IfOk result (λ near. AreNearTags library.now (map (λ t. t.now) near.tags.items)) }
+    ensures nearest { IfOk result (λ near. AreNearestTags library.now tag.now (map (λ t. t.now) near.tags.items)) }
     ensures declared { IfOk result (λ near. IsTrue near.is_declared ↔ IsDeclaredTag library.now tag.now) }
     ensures other { IfOk result (λ near. IsOtherTag library.now tag.now near.other) }
     ensures unreadable { IfErr result (IsUnlaid library.now) }

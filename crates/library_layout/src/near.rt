@@ -1,9 +1,10 @@
 // Tags in a graph that are similar to a given one.
-ghost use Rattle.std.specs.Prelude.{◌≡◌, ◌<◌, ◌≤◌, ◌⊎◌, true, false, length, map, IfOk, IfSome, IsTrue};
+ghost use Rattle.std.specs.Prelude.{◌≡◌, ◌≢◌, ◌<◌, ◌≤◌, ◌⊎◌, ◌&&◌, ◌==◌, [], true, false, length, map, not, take, IfOk, IfSome, IsSomeAnd};
+ghost use Rattle.std.specs.Option.{option_copied};
 ghost use Rattle.std.specs.List.{list_any};
 ghost use Rattle.std.specs.Str.{bytes_eq};
 ghost use Rattle.type_print.specs.Structures.{has_layout};
-ghost use Rattle.library_layout.specs.Structures.{AreTagsIn, IsNewTagIn};
+ghost use Rattle.library_layout.specs.Structures.{AreNearestIn, AreTagsIn, IsLeftOut, IsNearestBeside, PassesType, distance};
 
 use crate::layouts::is_structure;
 use abi_base::NoMemory;
@@ -25,12 +26,16 @@ struct Near<'a> {
 }
 
 // The first bytes of a tag.
-fn start_of(tag: &[u8]) -> &[u8] {
-    tag.get(..COMPARED).unwrap_or(tag)
+fn start_of(tag: &[u8]) -> &[u8]
+    ensures { result.now ≡ take 64 tag.now }
+{
+    &tag[..COMPARED.min(tag.len())]
 }
 
 // The edit distance between two tags, in bytes, over their first bytes.
-fn edits_between(alloc: Global, from: &[u8], to: &[u8]) -> Result<usize, NoMemory> {
+fn edits_between(alloc: Global, from: &[u8], to: &[u8]) -> Result<usize, NoMemory>
+    ensures { IfOk result (λ edits. edits ≡ distance from.now to.now) }
+{
     let edits = generic_levenshtein(alloc, start_of(from), start_of(to))?;
     Ok(edits)
 }
@@ -44,7 +49,7 @@ fn is_among(tags: &[&[u8]], tag: &[u8]) -> bool
 
 // Whether the type is a structure with a definition and a tag.
 fn is_tagged<Ix: Index>(view: &View<Ix>) -> bool
-    ensures { IsTrue result → has_layout view.now view.now.tag ≡ true }
+    ensures { result ≡ (has_layout view.now view.now.tag && not (length view.now.tag == 0)) }
 {
     is_structure(view.kind) && !view.declared_only && !view.tag.is_empty()
 }
@@ -60,6 +65,9 @@ fn near_of<'a, Ix: Index>(
     ensures tagged { IfOk result (λ found. IfSome found (λ near. has_layout view.now near.tag.now ≡ true)) }
     ensures new { IfOk result (λ found. IfSome found (λ near. list_any (λ t. bytes_eq t.now near.tag.now) tags.now
         ≡ false)) }
+    ensures named { IfOk result (λ found. IfSome found (λ near. near.tag.now ≢ [])) }
+    ensures measured { IfOk result (λ found. IfSome found (λ near. near.edits ≡ distance near.tag.now tag.now)) }
+    ensures passed { IfOk result (PassesType view.now (map (λ t. t.now) tags.now)) }
 {
     if !is_tagged(view) || is_among(tags, view.tag) {
         return Ok(None);
@@ -73,7 +81,9 @@ fn near_of<'a, Ix: Index>(
 
 // The nearer of two tags, or the first one where both are equally near.
 fn nearer<'a>(first: Option<Near<'a>>, second: Option<Near<'a>>) -> Option<Near<'a>>
-    ensures { (result ≡ first.entry) ⊎ (result ≡ second.entry) }
+    ensures one { (result ≡ first.entry) ⊎ (result ≡ second.entry) }
+    ensures first { IfSome first.entry (λ near. IsSomeAnd result (λ found. found.edits ≤ near.edits)) }
+    ensures second { IfSome second.entry (λ near. IsSomeAnd result (λ found. found.edits ≤ near.edits)) }
 {
     match (first, second) {
         (Some(one), Some(other)) => {
@@ -95,7 +105,9 @@ fn nearest<'a, Ix: Index>(
     tag: &[u8],
     tags: &[&[u8]],
 ) -> Result<Option<&'a [u8]>, NoMemory>
-    ensures { IfOk result (λ found. IfSome found (λ near. IsNewTagIn graph.now (map (λ t. t.now) tags.now) near.now)) }
+    ensures new { IfOk result (λ found. IfSome found (λ near. IsLeftOut graph.now (map (λ t. t.now) tags.now) near.now)) }
+    ensures nearest { IfOk result (λ found. IsNearestBeside graph.now tag.now (map (λ t. t.now) tags.now)
+        (option_copied found)) }
 {
     let mut found = None;
     for number in 0..graph.len() {
@@ -116,6 +128,7 @@ pub(crate) fn near_in<'a, Ix: Index>(
 ) -> Result<Vec<&'a [u8]>, NoMemory>
     ensures few { IfOk result (λ tags. length tags.items ≤ 5) }
     ensures tags { IfOk result (λ tags. AreTagsIn graph.now (map (λ t. t.now) tags.items)) }
+    ensures nearest { IfOk result (λ tags. AreNearestIn graph.now tag.now (map (λ t. t.now) tags.items)) }
 {
     let mut tags = Vec::new(alloc);
     'near: while tags.len() < MOST_TAGS {
