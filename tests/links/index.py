@@ -16,6 +16,7 @@ _README, _GUIDE, _PACKAGES = ROOT / "README.md", DOCS / "GUIDE.md", DOCS / "PACK
 _RULE_FILES, _SPECIFICATION, _PROOFS = DOCS / "RULE_FILES.md", DOCS / "SPECIFICATION.md", DOCS / "PROOFS.md"
 _ARCHITECTURE, _LIMITS = DOCS / "ARCHITECTURE.md", DOCS / "manual" / "LIMITS.md"
 _GAPS, _DECISIONS = DOCS / "manual" / "GAPS.md", DOCS / "DECISIONS.md"
+_BENCHMARKS, _PEERS = DOCS / "evidence" / "BENCHMARKS.md", DOCS / "evidence" / "PEERS.md"
 _MANUAL = [DOCS / "manual" / f"{name}.md" for name in ("REPORTS", "LAYOUTS", "APPLICATIONS", "RELEASES", "GAPS", "LIMITS")]
 # The pages for users, in the order in which a word of theirs is looked for.
 _FOR_USERS = [_GUIDE, _PACKAGES, *_MANUAL, _RULE_FILES, DOCS / "FAQ.md", _README, _SPECIFICATION]
@@ -59,6 +60,8 @@ _PROGRAMS = {
     "binding, default version": ((_SPECIFICATION, "The verdict"),),
     "registers, stack places, the psABI": ((_SPECIFICATION, "Call places"),),
     "what is refused, such as C++": ((_GAPS, "What is refused"),),
+    "`abidiff`: time and memory beside it, on the C library and others": ((_BENCHMARKS, "Whole libraries: `bench/check.sh`"),),
+    "`abidiff`: answers beside it": ((_PEERS, ""), (DOCS / "FAQ.md", "Why does abidiff say otherwise?")),
 }
 
 _HEAD = """\
@@ -68,6 +71,7 @@ Where is what? Search this page for a word, a number or a name, and follow the l
 `man abi-gate`. `tests/links.sh --write` makes this page from the other pages and from the sources.
 
 """
+_LIMIT_SENTENCE = "Past a limit the sentence is `abi: past the limit on WORDS (LIMITS in abi(1))`, with status 4.\n\n"
 _STATUSES = """\
 | Of | Status or answer | Where |
 |---|---|---|
@@ -134,25 +138,39 @@ def rows_of_rules() -> Iterator[tuple[str, ...]]:
         yield rule.word, rule.words, pages, f"`{rule.name}`", ", ".join(f"`crates/{path}`" for path in _FILES_OF_RULES[rule.word[0]])
 
 
+def kind_of(number: int) -> str:
+    """The word that is printed before the number of a fault or a refusal."""
+    return "fault" if number < 70 else "refused"
+
+
 def rows_of_faults() -> Iterator[tuple[str, ...]]:
     """A row for each fault and each refusal of a certificate."""
     for fault in faults():
-        kind = "fault" if int(fault.word) < 70 else "refused"
-        yield f"{kind} {fault.word} {fault.name}", fault.words, link(of_fault(fault))
+        yield f"{kind_of(int(fault.word))} {fault.word} {fault.name}", fault.words, link(of_fault(fault))
+
+
+def numbers_of_no_fault() -> str:
+    """The numbers below the last one that neither a fault nor a refusal has, each by itself, so that a search finds it."""
+    known = {int(fault.word) for fault in faults()}
+    return ", ".join(f"{kind_of(number)} {number}" for number in range(1, max(known)) if number not in known)
 
 
 def rows_of_limits() -> Iterator[tuple[str, ...]]:
-    """A row for each limit."""
+    """A row for each limit, with how much it allows."""
     for limit in limits():
-        found = [section for section in sections(_LIMITS) if f"| {limit.words} | {limit.word} | " in section.text]
-        yield limit.word, f"`{limit.name}`", limit.words, link(found[0])
+        found = [(section, row[2]) for section in sections(_LIMITS) for rows in tables(section.text) for row in rows
+                 if row[:2] == [limit.words, limit.word]]
+        section, allowed = found[0]
+        yield limit.word, f"`{limit.name}`", limit.words, allowed, link(section)
 
 
 def rows_of_notes() -> Iterator[tuple[str, ...]]:
     """A row for each kind of note."""
     told, breaking = at(_GUIDE, "What no rule judges"), at(_GUIDE, "Notes on what can break callers")
+    idle = at(_RULE_FILES, "Sections that match nothing")
     for kind, can_break in kinds_of_notes():
-        yield f"`{kind.word}`", kind.words, "can break callers" if can_break else "only told", breaking if can_break else told
+        places = [breaking if can_break else told, *([idle] if kind.word == "idle section" else [])]
+        yield f"`{kind.word}`", kind.words, "can break callers" if can_break else "only told", ", ".join(places)
 
 
 def rows_of_programs() -> Iterator[tuple[str, ...]]:
@@ -217,12 +235,13 @@ def rows_of_points() -> Iterator[tuple[str, ...]]:
 
 
 def rows_of_words() -> str:
-    """The words of the glossary, and the crates."""
+    """The words of the glossary, each with its file, and the crates."""
     (glossary,) = [section for section in sections(_ARCHITECTURE) if section.title == "Glossary"]
-    words = [row[0] for rows in tables(glossary.text) for row in rows[1:]]
+    words = [(row[0], row[2]) for rows in tables(glossary.text) for row in rows[1:]]
     crates = [f"`{crate}`" for section in sections(_ARCHITECTURE) for rows in tables(section.text) if rows[0][0] == "Crate" and len(rows[0]) == 3
               for row in rows[1:] for crate in re.findall(r"`(\w+)`", row[0])]
-    return f"{link(glossary)}: {', '.join(words)}.\n\n{at(_ARCHITECTURE, 'The crates')}: {', '.join(crates)}.\n"
+    return (f"{link(glossary)} says what each word means.\n\n{table('Word', 'Defined in', rows=words)}\n"
+            f"{at(_ARCHITECTURE, 'The crates')}: {', '.join(crates)}.\n")
 
 
 def shown(page: Path) -> list[Section]:
@@ -250,7 +269,9 @@ def contents() -> Iterator[str]:
 def statuses() -> str:
     """Which section has which exit status."""
     answers = [row for section in sections(_SPECIFICATION) if section.title == "Answers" for row in tables(section.text)[0][1:]]
-    rows = [f"| `abi`, `abi-json` | exit status {number}: {status} | {at(_SPECIFICATION, 'Answers')} |\n" for status, number, _ in answers]
+    more = {"5": "; [what to do](GUIDE.md#notes-beside-an-answer)"}
+    rows = [f"| `abi`, `abi-json` | exit status {number}: {status} | {at(_SPECIFICATION, 'Answers')}{more.get(number, '')} |\n"
+            for status, number, _ in answers]
     return _STATUSES.format(
         rows="".join(rows), short=at(_README, "Exit statuses"),
         gate=at(_PACKAGES, 'A gate that can say "cannot tell"'), several=at(_PACKAGES, "Several libraries in one run"),
@@ -264,9 +285,11 @@ def parts() -> Iterator[tuple[str, str]]:
     """The sections of the index, each with its text."""
     yield "Rules", table("Rule", "What broke", "Pages", "In the code", "Definition; code", rows=rows_of_rules())
     yield "Programs and formats", table("Word", "Where", rows=rows_of_programs())
-    yield "Faults", table("As it is printed", "When", "Exactly", rows=rows_of_faults())
+    unused = f"\nNothing has these numbers: {numbers_of_no_fault()}.\n"
+    yield "Faults", table("As it is printed", "When", "Exactly", rows=rows_of_faults()) + unused
     yield "Statuses", statuses()
-    yield "Limits", table("Words of the sentence", "Name in the code", "What is counted", "How much", rows=rows_of_limits())
+    yield "Limits", _LIMIT_SENTENCE + table(
+        "Words of the sentence", "Name in the code", "What is counted", "How much", "Where", rows=rows_of_limits())
     yield "Notes", table("Kind", "What it is about", "Weight", "Where", rows=rows_of_notes())
     yield "Rule files", table("Property", "Read", "Where", rows=rows_of_properties())
     yield "Sentences", table("Sentence", "Where", rows=rows_of_sentences())
