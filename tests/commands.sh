@@ -58,6 +58,11 @@ done <<'END'
 64|check --rules -h
 64|check --loud plain.so plain.so
 64|--help=x
+64|--version=x
+64|--version plain.so
+64|check --version
+64|version
+64|-V
 64|Check plain.so plain.so
 64|CHECK plain.so plain.so
 64|plain.so check plain.so
