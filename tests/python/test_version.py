@@ -35,7 +35,8 @@ def test_the_release_is_that_of_the_tools() -> None:
 
 def test_the_logic_is_that_of_the_readme() -> None:
     logic = _found(ROOT / "README.md", r"^Proved with the logic `([0-9a-f]{16})` of Rattle")
-    assert _found(ROOT / "README.md", r"must then print `logic ([0-9a-f]{16})`") == logic
+    pages = (ROOT / "README.md").read_text() + (ROOT / "CONTRIBUTING.md").read_text()
+    assert set(re.findall(r"logic `?([0-9a-f]{16})\b", pages)) == {logic}
     assert _text("abi").splitlines()[1] == f"proved with Rattle, logic {logic}"
 
 
