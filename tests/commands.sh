@@ -17,9 +17,9 @@ usage: abi check [--rules FILE] [--report text|table|counts|first|own] OLD NEW
        abi exports LIB
        abi trial N
        abi migrate [--rules FILE] OLD NEW CERT
+       abi app [--rules FILE] [--report text|table|counts|first|own] APP OLD NEW
        abi compose A B C CERT1 CERT2
        abi layout LIB TAG
-       abi app [--rules FILE] [--report text|table|counts|first|own] APP OLD NEW
 END
 
 # build LIBRARY < SOURCE
@@ -58,6 +58,11 @@ done <<'END'
 64|check --rules -h
 64|check --loud plain.so plain.so
 64|--help=x
+64|--version=x
+64|--version plain.so
+64|check --version
+64|version
+64|-V
 64|Check plain.so plain.so
 64|CHECK plain.so plain.so
 64|plain.so check plain.so

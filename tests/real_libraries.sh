@@ -33,9 +33,9 @@ usage: abi check [--rules FILE] [--report text|table|counts|first|own] OLD NEW
        abi exports LIB
        abi trial N
        abi migrate [--rules FILE] OLD NEW CERT
+       abi app [--rules FILE] [--report text|table|counts|first|own] APP OLD NEW
        abi compose A B C CERT1 CERT2
        abi layout LIB TAG
-       abi app [--rules FILE] [--report text|table|counts|first|own] APP OLD NEW
 END
 
 build old old

@@ -69,6 +69,7 @@ refused "exports" 0 exports old.so
 refused "an unreadable library" 2 exports cut.so
 refused "a missing library" 3 exports missing.so
 refused "help" 0 --help
+refused "the version" 0 --version
 system=/lib/x86_64-linux-gnu/libz.so.1
 if [ -e "$system" ]; then refused "a library of the system" 0 check "$system" "$system"; fi
 

@@ -167,7 +167,7 @@ def completed(program: str, *words: str) -> list[str]:
 
 def test_completion() -> None:
     commands = sorted(command.name for command in read_manual().commands)
-    assert completed("abi", "") == sorted([*commands, "--help"])
+    assert completed("abi", "") == sorted([*commands, "--help", "--version"])
     assert completed("abi", "ve") == ["verify"]
     assert completed("abi", "check", "-") == ["--report", "--rules"]
     assert completed("abi", "check", "--report", "t") == ["table", "text"]

@@ -15,7 +15,7 @@ _{function}() {{
     if [[ $current == = ]]; then current=; fi
     if [[ $previous == = ]]; then previous=${{COMP_WORDS[COMP_CWORD - 2]}}; fi
     if ((COMP_CWORD == 1)); then
-        mapfile -t COMPREPLY < <(compgen -W "{commands} --help" -- "$current")
+        mapfile -t COMPREPLY < <(compgen -W "{commands} --help --version" -- "$current")
         return
     fi
     case ${{COMP_WORDS[1]}} in

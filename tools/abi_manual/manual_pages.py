@@ -140,6 +140,10 @@ def _options(manual: Manual, left_out: Iterable[str]) -> Iterator[str]:
     yield ".TP"
     yield "\\fB\\-h\\fR, \\fB\\-\\-help\\fR"
     yield "Prints the usage."
+    yield ".TP"
+    yield "\\fB\\-\\-version\\fR"
+    yield from sentences("Prints the name and the release of the program, the logic with which it is proved, and the formats that it "
+                         "reads and writes. It must be the only argument.")
 
 
 def _statuses(manual: Manual) -> Iterator[str]:

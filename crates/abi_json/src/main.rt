@@ -9,14 +9,19 @@ mod told;
 mod wanted;
 mod words;
 
+ghost use Rattle.std.specs.Prelude.{◌≡◌, codes, IfOk};
+ghost use Rattle.cli_args.specs.Release.{version_text};
+
 use crate::alone::{is_for_notes, notes_told};
 use crate::told::{Told, told_of};
 use crate::wanted::wanted_by;
 use crate::words::words_of;
 use abi_base::{FileInputs, NoMemory, StdSink, write_all};
+use cli_args::{asks_for_version, version};
 use commands::Outcome;
 use document_head::Wanted;
 use explain::{encoding_sentence, memory_sentence};
+use std::alloc::Global;
 use std::io::ErrorKind;
 use std::process::ExitCode;
 use std::rt::{Env, Files};
@@ -69,12 +74,25 @@ fn arguments_of<R: Env + AllocGlobal>(rt: &R) -> io::Result<Vec<String>> {
     Ok(arguments)
 }
 
+// The version of this program, which is printed as a text and not as a document.
+fn version_told(alloc: Global) -> Result<Told, NoMemory>
+    ensures { IfOk result (λ told. told.document.items ≡ version_text (codes "abi-json")) }
+{
+    Ok(Told {
+        outcome: Outcome::Help,
+        document: version(alloc, "abi-json")?,
+    })
+}
+
 // The outcome and the document of a run with these arguments.
 fn told_by_words<R: Files + AllocGlobal>(
     rt: &R,
     words: &[&str],
     wanted: Wanted,
 ) -> Result<Told, NoMemory> {
+    if asks_for_version(words) {
+        return version_told(rt.alloc());
+    }
     if is_for_notes(words) {
         return notes_told(rt, words);
     }

@@ -1,9 +1,9 @@
 -- The answers of a call whose words ask for something are the replies of its command.
-use Rattle.std.proofs.Common.{◌≡◌, ℕ, List, length, subst}
+use Rattle.std.proofs.Common.{◌≡◌, ℕ, List, inl, inr, length, subst}
 use Rattle.abi_top.specs.Answer.{Answers, Asks, row_of}
 use Rattle.abi_top.specs.Calls.{Call}
 use Rattle.cli_args.specs.Commands.{PlainRequest}
-use Rattle.cli_args.specs.ParsedArguments.{request, usage, help, arguments_by}
+use Rattle.cli_args.specs.ParsedArguments.{request, usage, help, version, arguments_by}
 use Rattle.abi_base.specs.declared.fault.Fault.{Fault}
 use Rattle.commands.specs.Commands.{asks_of, places_of}
 use Rattle.commands.specs.Faults.{FaultOfAll}
@@ -24,6 +24,9 @@ asks_usage call asked is none = cc
 pub asks_help : (call : Call) (asked : PlainRequest) → arguments_by call.words ≡ request asked → arguments_by call.words ≡ help → ⊥
 asks_help call asked is none = cc
 
+pub asks_version : (call : Call) (asked : PlainRequest) → arguments_by call.words ≡ request asked → arguments_by call.words ≡ version → ⊥
+asks_version call asked is none = cc
+
 module _ (call : Call) (asked : PlainRequest) (is : arguments_by call.words ≡ request asked) where
   this : (outcome : Outcome) (text : List ℕ) → Asks call (λ a. Replies call.reading (row_of call a).inputs (row_of call a).says outcome text)
       → Replies call.reading (row_of call asked).inputs (row_of call asked).says outcome text
@@ -31,7 +34,10 @@ module _ (call : Call) (asked : PlainRequest) (is : arguments_by call.words ≡ 
 
   pub reply_of : (outcome : Outcome) (text : List ℕ) → Answers call outcome text → Replies call.reading (row_of call asked).inputs (row_of call asked).says outcome text
   reply_of Usage text answer = absurd (asks_usage call asked is answer.0)
-  reply_of Help text answer = absurd (asks_help call asked is answer.0)
+  reply_of Help text answer = elim answer [
+    | inl h ↦ absurd (asks_help call asked is h.0)
+    | inr h ↦ absurd (asks_version call asked is h.0)
+  ]
   reply_of (Judged v untyped) text answer = this (Judged v untyped) text answer
   reply_of (Unreadable which fault) text answer = this (Unreadable which fault) text answer
   reply_of (ReadFault which) text answer = this (ReadFault which) text answer

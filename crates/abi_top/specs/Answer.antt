@@ -1,10 +1,11 @@
 -- The answers that a run may give: a row for each outcome.
-use Rattle.std.specs.Prelude.{◌≡◌, ◌≤◌, ℕ, List, length}
+use Rattle.std.specs.Prelude.{◌≡◌, ◌⊎◌, ◌≤◌, ℕ, List, codes, length}
 use Rattle.abi_base.specs.declared.limit.Limit.{Limit}
 use Rattle.abi_top.specs.Calls.{Call}
 use Rattle.abi_top.specs.Rows.{command_of}
 use Rattle.cli_args.specs.Commands.{PlainRequest, usage_text}
-use Rattle.cli_args.specs.ParsedArguments.{request, usage, help, arguments_by}
+use Rattle.cli_args.specs.ParsedArguments.{request, usage, help, version, arguments_by}
+use Rattle.cli_args.specs.Release.{version_text}
 use Rattle.commands.specs.Commands.{Command, places_of}
 use Rattle.commands.specs.Reading.{AreTold}
 use Rattle.commands.specs.Replies.{OnBytes, Replies}
@@ -23,10 +24,11 @@ AsksForTold call = (asked : PlainRequest) → arguments_by call.words ≡ reques
 abbrev pub Asks : Call → (PlainRequest → Type 0) → Type 0
 Asks call P = (asked : PlainRequest) × (arguments_by call.words ≡ request asked) × P asked
 
--- The text that belongs to an outcome.
+-- The text that belongs to an outcome. The help is the usage lines, or the version of `abi`.
 abbrev pub Answers : Call → Outcome → List ℕ → Type 0
 Answers call Usage text = (arguments_by call.words ≡ usage) × (text ≡ usage_text)
-Answers call Help text = (arguments_by call.words ≡ help) × (text ≡ usage_text)
+Answers call Help text = ((arguments_by call.words ≡ help) × (text ≡ usage_text))
+    ⊎ ((arguments_by call.words ≡ version) × (text ≡ version_text (codes "abi")))
 Answers call outcome text = Asks call (λ asked. Replies call.reading (row_of call asked).inputs (row_of call asked).says outcome text)
 
 -- this many bytes have room for the text of every answer to the call

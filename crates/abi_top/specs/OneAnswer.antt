@@ -6,7 +6,7 @@ use Rattle.abi_top.specs.Answer.{Answers, row_of}
 use Rattle.abi_top.specs.Calls.{Call}
 use Rattle.abi_top.specs.Text.{accepted_text}
 use Rattle.cli_args.specs.Commands.{PlainRequest, app, check, verify}
-use Rattle.cli_args.specs.ParsedArguments.{request, usage, help, arguments_by}
+use Rattle.cli_args.specs.ParsedArguments.{request, usage, help, version, arguments_by}
 use Rattle.commands.specs.Commands.{places_of}
 use Rattle.commands.specs.OneReply.{TellsEach}
 use Rattle.commands.specs.declared.input.Input.{Input}
@@ -36,11 +36,11 @@ TellsAll call =
     (asked : PlainRequest) × (arguments_by call.words ≡ request asked) × AreTextsDecided call.voices asked
     × (all : List (List ℕ)) × TellsEach call.reading.told (places_of (row_of call asked).inputs) all
 
--- If the arguments of a call are wrong, request the help, or make a request whose inputs have known bytes, any two answers have
--- equal outcomes and equal texts. A read fault is left out, because it depends on what fails in the call.
+-- If the arguments of a call are wrong, request the help or the version, or make a request whose inputs have known bytes, any two
+-- answers have equal outcomes and equal texts. A read fault is left out, because it depends on what fails in the call.
 abbrev pub OneAnswer : Type 0
 OneAnswer =
-    (call : Call) → (arguments_by call.words ≡ usage) ⊎ ((arguments_by call.words ≡ help) ⊎ TellsAll call) → (one two : Outcome) (text other : List ℕ) → IsNoReadFault one → IsNoReadFault two
+    (call : Call) → (arguments_by call.words ≡ usage) ⊎ ((arguments_by call.words ≡ help) ⊎ ((arguments_by call.words ≡ version) ⊎ TellsAll call)) → (one two : Outcome) (text other : List ℕ) → IsNoReadFault one → IsNoReadFault two
     → Answers call one text → Answers call two other → (one ≡ two) × (text ≡ other)
 
 -- `verify` accepts what `check` prints on yes: if a call answers `check` with yes and this text, which is within the limit, then

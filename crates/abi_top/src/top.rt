@@ -1,5 +1,5 @@
 // The top call.
-ghost use Rattle.std.specs.Prelude.{◌≡◌, ◌≢◌, ◌⊎◌, ◌≤◌, List, [], ℕ, Option, Some, map, All, IfErr, IfOk, length};
+ghost use Rattle.std.specs.Prelude.{◌≡◌, ◌≢◌, ◌⊎◌, ◌≤◌, List, [], ℕ, Option, Some, codes, map, All, IfErr, IfOk, length};
 ghost use Rattle.std.specs.Io.KnownBytes.{Appends};
 ghost use Rattle.abi_base.specs.Causes.{AppendsFront, Rose, SameCounts, Unfailing};
 ghost use Rattle.abi_base.specs.Outcome.{OnLimit};
@@ -12,7 +12,8 @@ ghost use Rattle.abi_top.specs.Calls.{Call, call_of};
 ghost use Rattle.abi_top.specs.Rows.{command_of};
 ghost use Rattle.abi_top.specs.Verdicts.{Agrees, Disagrees, LeavesStayOf, MeansDone, MeansNo, MeansRefused, MeansYes};
 ghost use Rattle.cli_args.specs.Commands.{PlainRequest, check, plain_request, trial, usage_text};
-ghost use Rattle.cli_args.specs.ParsedArguments.{arguments_by, request as requested, help, usage};
+ghost use Rattle.cli_args.specs.ParsedArguments.{arguments_by, request as requested, help, usage, version};
+ghost use Rattle.cli_args.specs.Release.{version_text};
 ghost use Rattle.cli_args.specs.Words.{texts};
 ghost use Rattle.commands.specs.Commands.{asks_of, files_of, places_of, plain_file, plain_place};
 ghost use Rattle.commands.specs.Faults.{FaultOfAll};
@@ -38,7 +39,7 @@ use crate::trial::Trial;
 use crate::verify::Verify;
 use abi_base::{Inputs, NoMemory, Sink, write_all};
 use cli_args::laws::a_trial_is_of_a_count;
-use cli_args::{ParsedArguments, Request, parse_arguments, usage};
+use cli_args::{ParsedArguments, Request, parse_arguments, usage, version};
 use commands::{Answer, File, Input, Outcome, Place, Verdict, answer_with};
 use library_check::laws::{a_file_may_replace_itself, compatible_is_that_accesses_agree};
 use report::Listener;
@@ -194,10 +195,15 @@ pub fn run<'a, I: Inputs, S: Sink>(
     ensures wrong_words { arguments_by (texts words.entry.now) ≡ usage
         → (result.outcome ≡ Outcome.Usage) ⊎ (IsNoMemory result.outcome ⊎ (result.outcome ≡ Outcome.WriteFault)) }
 
-    // The outcome is the help exactly if the arguments request it, unless memory runs out or writing fails.
-    ensures help { result.outcome ≡ Outcome.Help
+    // The outcome is the help exactly if the arguments request it or the version, unless memory runs out or writing fails. For the
+    // version the text is that of `abi`.
+    ensures help { result.outcome ≡ Outcome.Help → arguments_by (texts words.entry.now) ≢ version
         → (arguments_by (texts words.entry.now) ≡ help) × Appends (S.held sink.old) (S.held sink.new) usage_text }
     ensures help_words { arguments_by (texts words.entry.now) ≡ help
+        → (result.outcome ≡ Outcome.Help) ⊎ (IsNoMemory result.outcome ⊎ (result.outcome ≡ Outcome.WriteFault)) }
+    ensures version { result.outcome ≡ Outcome.Help → arguments_by (texts words.entry.now) ≡ version
+        → Appends (S.held sink.old) (S.held sink.new) (version_text (codes "abi")) }
+    ensures version_words { arguments_by (texts words.entry.now) ≡ version
         → (result.outcome ≡ Outcome.Help) ⊎ (IsNoMemory result.outcome ⊎ (result.outcome ≡ Outcome.WriteFault)) }
 
     // Write fault: a write failed in this call, after a prefix of a text that belongs to another possible outcome.
@@ -275,6 +281,11 @@ fn answer_to<'a, I: Inputs>(
         ParsedArguments::Help => Ok(Answer {
             outcome: Outcome::Help,
             text: usage(alloc)?,
+            files: Vec::new(alloc),
+        }),
+        ParsedArguments::Version => Ok(Answer {
+            outcome: Outcome::Help,
+            text: version(alloc, "abi")?,
             files: Vec::new(alloc),
         }),
         ParsedArguments::Usage => Ok(Answer {

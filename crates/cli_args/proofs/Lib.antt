@@ -1,6 +1,7 @@
 mod OneKind
 mod LineLemmas
 mod HelpAlone
+mod VersionAlone
 mod CalmWalks
 mod HelpKinds
 mod HelpWords

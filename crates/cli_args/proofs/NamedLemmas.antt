@@ -8,6 +8,7 @@ use Rattle.clap.specs.declared.error.kind.ErrorKind.TheVariants as kind
 use Rattle.cli_args.specs.Line.{PlainLine, line_app, line_in}
 use Rattle.cli_args.specs.Commands.{command_named, makings_of, row_of, word_at}
 use Rattle.cli_args.specs.ParsedArguments.{needless_of, style_of}
+use Rattle.cli_args.specs.Release.{is_version_alone}
 use Rattle.cli_args.specs.Trials.{trial_count_of}
 use Rattle.cli_args.specs.WrongWords.{NamesOne, PlainWrong, is_help_with_value, is_repeated, is_unknown_option, is_without_value, missing_value, needless_value, or_needless, or_other, refused_by, refused_word, repeated_option, unknown_option, unknown_style, without_value, wrong_by, wrong_count, wrong_count_of, wrong_in, wrong_named, wrong_number, wrong_style, wrong_trial, wrong_value, wrong_with}
 use Rattle.cli_args.specs.declared.commands.CommandName.{CommandName}
@@ -117,4 +118,8 @@ by_kinds (kind.OutOfMemory ∷ rest) line words = tt
 
 pub names_one : (words : List (List ℕ)) → NamesOne words (wrong_in words)
 unfolding wrong_in
-names_one words = by_kinds (fault_of line_app words) (line_in (matches_of line_app words)) words
+names_one words = go (is_version_alone words)
+  where
+    go : (b : Bool) → NamesOne words (if b then None else wrong_by (fault_of line_app words) (line_in (matches_of line_app words)) words)
+    go true = tt
+    go false = by_kinds (fault_of line_app words) (line_in (matches_of line_app words)) words

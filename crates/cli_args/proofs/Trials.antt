@@ -56,4 +56,4 @@ right_line : (line : PlainLine) → AsksRight (request_or_usage (request_on line
 right_line line = right_request (option_and_then command_named line.command) line.files line.rules line.report
 
 pub right : (words : List (List ℕ)) (n : ℕ) → arguments_by words ≡ request (trial n) → (1 ≤ n) × (n ≤ most_count)
-right words n e = subst AsksRight e (judged_all AsksRight tt tt right_line words)
+right words n e = subst AsksRight e (judged_all AsksRight tt tt tt right_line words)

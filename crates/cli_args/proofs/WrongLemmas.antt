@@ -7,9 +7,10 @@ use Rattle.clap.specs.declared.parser.matches.ArgMatches.{ArgMatches}
 use Rattle.clap.specs.declared.error.kind.ErrorKind.TheVariants as kind
 use Rattle.report.specs.declared.styles.report_option.ReportStyle.{ReportStyle}
 use Rattle.cli_args.specs.Line.{Finds, PlainLine, line_app, line_in}
+use Rattle.cli_args.specs.Release.{is_version_alone}
 use Rattle.cli_args.specs.Trials.{trial_count_of}
 use Rattle.cli_args.specs.Commands.{Making, PlainRequest, Row, command_named, makings_of, of_count, of_style, of_words, row_of, word_at}
-use Rattle.cli_args.specs.ParsedArguments.{PlainArguments, arguments_by, judged_by, made_of, needless_of, request_of, request_on, request_or_usage, style_of, usage}
+use Rattle.cli_args.specs.ParsedArguments.{PlainArguments, arguments_by, judged_by, made_of, needless_of, request_of, request_on, request_or_usage, style_of, usage, version}
 use Rattle.cli_args.specs.WrongWords.{PlainWrong, or_needless, plain_wrong, refused_by, unknown_style, wrong_by, wrong_count, wrong_count_of, wrong_in, wrong_named, wrong_number, wrong_of, wrong_on, wrong_value, wrong_with}
 use Rattle.cli_args.specs.declared.commands.CommandName.{CommandName}
 use Rattle.cli_args.specs.declared.wrong.OptionName.{OptionName}
@@ -74,6 +75,10 @@ with_apart (Some command) files rules report = named_apart command (command_name
 
 -- ---- all words
 
+-- nothing is wrong with `--version` alone
+abbrev pub wrong_if : Bool → Kinds → List (List ℕ) → Option PlainWrong
+wrong_if is_alone kinds words = if is_alone then None else wrong_by kinds (line_in (matches_of line_app words)) words
+
 -- something is wrong where the words ask for nothing, and nothing where they ask for something
 abbrev pub Fits : Option PlainWrong → PlainArguments → Type 0
 Fits None asked = asked ≢ usage
@@ -109,7 +114,11 @@ by_fits (kind.OutOfMemory ∷ rest) words = refl
 
 pub words_fit : (words : List (List ℕ)) → Fits (wrong_in words) (arguments_by words)
 unfolding wrong_in arguments_by
-words_fit words = by_fits (fault_of line_app words) words
+words_fit words = go (is_version_alone words)
+  where
+    go : (b : Bool) → Fits (wrong_if b (fault_of line_app words) words) (if b then version else judged_by (fault_of line_app words) (matches_of line_app words))
+    go true = λ e. absurd cc
+    go false = by_fits (fault_of line_app words) words
 
 pub exact_of : (found : Option WrongWords) (asked : PlainArguments) → Fits (option_map plain_wrong found) asked → (IsSome found ↔ (asked ≡ usage))
 exact_of None asked other = (λ e. absurd (true≢false (sym e)), λ e. absurd (other e))
@@ -117,15 +126,20 @@ exact_of (Some wrong) asked is = (λ e. is, λ e. refl)
 
 -- ---- what is wrong, by what `clap` answers
 
-of_kinds : (words : List (List ℕ)) (kinds : Kinds) → fault_of line_app words ≡ kinds → wrong_by kinds (line_in (matches_of line_app words)) words ≡ wrong_in words
+pub wrong_version : (words : List (List ℕ)) → is_version_alone words ≡ true → None ≡ wrong_in words
 unfolding wrong_in
-of_kinds words kinds e = ap (λ (k : Kinds). wrong_by k (line_in (matches_of line_app words)) words) (sym e)
+wrong_version words alone = ap (λ (b : Bool). wrong_if b (fault_of line_app words) words) (sym alone)
 
-pub wrong_taken : (words : List (List ℕ)) (m : ArgMatches) → Finds words (Ok m) → wrong_on (line_in (rows_of (found_of m))) ≡ wrong_in words
-wrong_taken words m a = ap (λ (rows : List Found). wrong_on (line_in rows)) a.1 ∙ of_kinds words [] a.0
+of_kinds : (words : List (List ℕ)) (kinds : Kinds) → is_version_alone words ≡ false → fault_of line_app words ≡ kinds → wrong_by kinds (line_in (matches_of line_app words)) words ≡ wrong_in words
+unfolding wrong_in
+of_kinds words kinds other e =
+    ap (λ (k : Kinds). wrong_by k (line_in (matches_of line_app words)) words) (sym e) ∙ ap (λ (b : Bool). wrong_if b (fault_of line_app words) words) (sym other)
 
-pub wrong_helped : (words : List (List ℕ)) → fault_of line_app words ≡ kind.DisplayHelp ∷ [] → None ≡ wrong_in words
-wrong_helped words e = of_kinds words (kind.DisplayHelp ∷ []) e
+pub wrong_taken : (words : List (List ℕ)) (m : ArgMatches) → is_version_alone words ≡ false → Finds words (Ok m) → wrong_on (line_in (rows_of (found_of m))) ≡ wrong_in words
+wrong_taken words m other a = ap (λ (rows : List Found). wrong_on (line_in rows)) a.1 ∙ of_kinds words [] other a.0
+
+pub wrong_helped : (words : List (List ℕ)) → is_version_alone words ≡ false → fault_of line_app words ≡ kind.DisplayHelp ∷ [] → None ≡ wrong_in words
+wrong_helped words other e = of_kinds words (kind.DisplayHelp ∷ []) other e
 
 of_kind : (k : ErrorKind) (line : PlainLine) (words : List (List ℕ)) → k ≢ kind.DisplayHelp → Some (refused_by k words) ≡ wrong_by (k ∷ []) line words
 of_kind kind.DisplayHelp line words other = absurd (other refl)
@@ -146,5 +160,6 @@ of_kind kind.Io line words other = refl
 of_kind kind.Format line words other = refl
 of_kind kind.OutOfMemory line words other = refl
 
-pub wrong_refused : (words : List (List ℕ)) (k : ErrorKind) → k ≢ kind.DisplayHelp → fault_of line_app words ≡ k ∷ [] → Some (refused_by k words) ≡ wrong_in words
-wrong_refused words k other e = of_kind k (line_in (matches_of line_app words)) words other ∙ of_kinds words (k ∷ []) e
+pub wrong_refused : (words : List (List ℕ)) (k : ErrorKind) → is_version_alone words ≡ false → k ≢ kind.DisplayHelp → fault_of line_app words ≡ k ∷ []
+    → Some (refused_by k words) ≡ wrong_in words
+wrong_refused words k other no_help e = of_kind k (line_in (matches_of line_app words)) words no_help ∙ of_kinds words (k ∷ []) other e

@@ -102,7 +102,7 @@ row_of App = record {
 
 -- all commands, in the order of the usage
 abbrev pub all_commands : List CommandName
-all_commands = Check ∷ Verify ∷ Entries ∷ Exports ∷ Trial ∷ Migrate ∷ Compose ∷ Layout ∷ App ∷ []
+all_commands = Check ∷ Verify ∷ Entries ∷ Exports ∷ Trial ∷ Migrate ∷ App ∷ Compose ∷ Layout ∷ []
 
 -- ---- what follows from the rows
 

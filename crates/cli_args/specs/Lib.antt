@@ -2,6 +2,7 @@ pub mod Words
 pub mod Line
 pub mod Trials
 pub mod Commands
+pub mod Release
 pub mod ParsedArguments
 pub mod Requests
 pub mod PlainLines

@@ -7,14 +7,16 @@ use Rattle.report.specs.declared.styles.report_option.ReportStyle.{ReportStyle}
 use Rattle.report.specs.declared.styles.report_option.ReportStyle.TheVariants.{Text, Table, Counts, First, Own}
 use Rattle.cli_args.specs.Commands.{Making, PlainRequest, Row, command_named, makings_of, of_count, of_style, of_words, row_of, takes_report, word_at}
 use Rattle.cli_args.specs.Line.{PlainLine, line_app, line_in}
+use Rattle.cli_args.specs.Release.{is_version_alone}
 use Rattle.cli_args.specs.Trials.{trial_count_of}
 use Rattle.cli_args.specs.declared.wrong.OptionName.{OptionName}
 use Rattle.cli_args.specs.declared.wrong.OptionName.TheVariants.{Rules, Report}
 
--- the meaning of the arguments: a request, the help, or an error, which is answered with the usage
+-- the meaning of the arguments: a request, the help, the version, or an error, which is answered with the usage
 pub data PlainArguments : Type 0 where
   request : PlainRequest → PlainArguments
   help : PlainArguments
+  version : PlainArguments
   usage : PlainArguments
 
 -- the style with this name
@@ -62,8 +64,8 @@ judged_by [] rows = request_or_usage (request_on (line_in rows))
 judged_by (DisplayHelp ∷ rest) rows = help
 judged_by (kind ∷ rest) rows = usage
 
--- The meaning of the arguments. It is the help exactly if `clap` answers them with its help. It is the usage exactly if `clap`
--- refuses them for another cause, or if it accepts them but the command, the number of files, an option, the style or the number is
--- not valid.
+-- The meaning of the arguments. It is the version exactly if they are `--version` alone. It is the help exactly if `clap` answers them
+-- with its help. It is the usage exactly if `clap` refuses other arguments for another cause, or if it accepts them but the command,
+-- the number of files, an option, the style or the number is not valid.
 unfoldable pub arguments_by : List (List ℕ) → PlainArguments
-arguments_by words = judged_by (fault_of line_app words) (matches_of line_app words)
+arguments_by words = if is_version_alone words then version else judged_by (fault_of line_app words) (matches_of line_app words)

@@ -8,6 +8,7 @@ use Rattle.clap.specs.declared.error.kind.ErrorKind.TheVariants as kind
 use Rattle.cli_args.specs.Line.{PlainLine, line_app, line_in}
 use Rattle.cli_args.specs.Commands.{Row, command_named, makings_of, row_of, word_at}
 use Rattle.cli_args.specs.ParsedArguments.{needless_of, style_of}
+use Rattle.cli_args.specs.Release.{is_version_alone}
 use Rattle.cli_args.specs.Trials.{trial_count_of}
 use Rattle.cli_args.specs.declared.commands.CommandName.{CommandName}
 use Rattle.cli_args.specs.declared.commands.Makings.{Makings}
@@ -167,9 +168,9 @@ wrong_by [] line words = wrong_on line
 wrong_by (kind.DisplayHelp ∷ rest) line words = None
 wrong_by (cause ∷ rest) line words = Some (refused_by cause words)
 
--- what is wrong with the arguments, if they form no request
+-- What is wrong with the arguments, if they form no request. Nothing is wrong with `--version` alone.
 unfoldable pub wrong_in : List (List ℕ) → Option PlainWrong
-wrong_in words = wrong_by (fault_of line_app words) (line_in (matches_of line_app words)) words
+wrong_in words = if is_version_alone words then None else wrong_by (fault_of line_app words) (line_in (matches_of line_app words)) words
 
 -- ---- properties
 

@@ -131,12 +131,12 @@ pub(crate) fn command_named(word: &str) -> Option<CommandName>
         Some(CommandName::Trial)
     } else if word == "migrate" {
         Some(CommandName::Migrate)
+    } else if word == "app" {
+        Some(CommandName::App)
     } else if word == "compose" {
         Some(CommandName::Compose)
     } else if word == "layout" {
         Some(CommandName::Layout)
-    } else if word == "app" {
-        Some(CommandName::App)
     } else {
         None
     }
@@ -346,9 +346,9 @@ usage: abi check [--rules FILE] [--report text|table|counts|first|own] OLD NEW
        abi exports LIB
        abi trial N
        abi migrate [--rules FILE] OLD NEW CERT
+       abi app [--rules FILE] [--report text|table|counts|first|own] APP OLD NEW
        abi compose A B C CERT1 CERT2
        abi layout LIB TAG
-       abi app [--rules FILE] [--report text|table|counts|first|own] APP OLD NEW
 ";
 
 /// The usage text: a line for each command, with the options and the arguments that it takes.

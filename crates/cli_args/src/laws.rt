@@ -1,5 +1,5 @@
 //! Laws of all command lines. Each law is the contract of a function that does nothing.
-ghost use Rattle.std.specs.Prelude.{◌≡◌, ◌<◌, ◌≤◌, ◌^◌, ℕ, List, [], ◌∷◌, length, codes, Some, None, Option, IfSome};
+ghost use Rattle.std.specs.Prelude.{◌≡◌, ◌↔◌, ◌<◌, ◌≤◌, ◌^◌, ℕ, List, [], ◌∷◌, length, codes, Some, None, Option, IfSome};
 ghost use Rattle.std.specs.List.{All, Any};
 ghost use Rattle.std.specs.Fmt.{decimal};
 ghost use Rattle.clap.specs.Words.{fault_of};
@@ -8,7 +8,7 @@ ghost use Rattle.cli_args.specs.Words.{AsksForHelp, LooksForHelp, IsNoOption};
 ghost use Rattle.cli_args.specs.Line.{line_app, words_of};
 ghost use Rattle.cli_args.specs.Trials.{most_count, trial_count_of};
 ghost use Rattle.cli_args.specs.Commands.{check, verify, entries, exports, trial, migrate, compose, layout, app};
-ghost use Rattle.cli_args.specs.ParsedArguments.{arguments_by, request_on, request_or_usage, request, help};
+ghost use Rattle.cli_args.specs.ParsedArguments.{arguments_by, request_on, request_or_usage, request, help, version};
 
 /// `clap` has at most one answer to a list of arguments.
 pub fn one_answer()
@@ -26,6 +26,11 @@ pub fn help_alone_is_help()
 pub fn help_is_asked()
     ensures asks { (words : List (List ℕ)) → arguments_by words ≡ help → Any AsksForHelp words }
     ensures looks { (words : List (List ℕ)) → arguments_by words ≡ help → Any LooksForHelp words }
+{}
+
+/// The arguments request the version exactly if they are `--version` alone.
+pub fn version_alone_is_version()
+    ensures { (words : List (List ℕ)) → (arguments_by words ≡ version) ↔ (words ≡ codes "--version" ∷ []) }
 {}
 
 /// A trial has 1 to 50,000 functions.

@@ -7,8 +7,10 @@ mod judge;
 pub mod laws;
 mod line;
 mod parsed_arguments;
+mod release;
 mod wrong;
 
 pub use commands::{Request, usage};
 pub use parsed_arguments::{ParsedArguments, parse_arguments};
+pub use release::{asks_for_version, version};
 pub use wrong::{OptionName, WrongWords, wrong_words};

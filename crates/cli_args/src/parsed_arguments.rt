@@ -8,6 +8,7 @@ ghost use Rattle.cli_args.specs.Requests.{plain_asked};
 use crate::commands::Request;
 use crate::judge::judged;
 use crate::line::{Refused, matches_in};
+use crate::release::asks_for_version;
 use abi_base::NoMemory;
 use std::alloc::Global;
 
@@ -18,6 +19,8 @@ pub enum ParsedArguments<'a> {
     Request(Request<'a>),
     /// The help.
     Help,
+    /// The version.
+    Version,
     /// An error, which is answered with the usage.
     Usage,
 }
@@ -30,6 +33,9 @@ pub fn parse_arguments<'a>(
     ensures asked { IfOk result (λ asked. plain_asked asked ≡ arguments_by (texts words.entry.now)) }
     ensures named { IfErr result (λ e. e ≡ Allocation) }
 {
+    if asks_for_version(words) {
+        return Ok(ParsedArguments::Version);
+    }
     match matches_in(alloc, words) {
         Ok(matches) => Ok(judged(&matches)),
         Err(Refused::Help) => Ok(ParsedArguments::Help),

@@ -10,6 +10,7 @@ ghost use Rattle.cli_args.specs.WrongWords as spec;
 use crate::commands::{CommandName, Makings, command_named, taken_by};
 use crate::judge::{needless_option, report_style_named, trial_count, word_at};
 use crate::line::{Line, found_in, line_of};
+use crate::release::asks_for_version;
 use abi_base::NoMemory;
 use clap::error::ErrorKind;
 use std::alloc::Global;
@@ -54,8 +55,8 @@ pub enum WrongWords<'a> {
     OtherWords,
 }
 
-/// What is wrong with the arguments after the program's name, and which argument it is. It is `None` exactly if they form a request
-/// or the help. It fails only if memory runs out.
+/// What is wrong with the arguments after the program's name, and which argument it is. It is `None` exactly if they form a request,
+/// the help or the version. It fails only if memory runs out.
 pub fn wrong_words<'a>(
     alloc: Global,
     words: &'a [&'a str],
@@ -72,6 +73,9 @@ pub fn wrong_words<'a>(
 fn wrong_among<'a>(alloc: Global, words: &'a [&'a str]) -> Result<Option<WrongWords<'a>>, NoMemory>
     ensures { IfOk result (λ found. option_map plain_wrong found ≡ wrong_in (texts words.entry.now)) }
 {
+    if asks_for_version(words) {
+        return Ok(None);
+    }
     match found_in(alloc, words) {
         Ok(matches) => Ok(wrong_line(line_of(&matches))),
         Err(kind) => match kind {

@@ -1,6 +1,6 @@
 -- Over two libraries that fit in memory, `check` has a verdict, and which one it is says whether the new library may replace the
 -- old one.
-use Rattle.std.proofs.Common.{◌≡◌, ◌≢◌, ◌↔◌, ◌≤◌, ◌+◌, ℕ, min, length, List, [], ◌∷◌, Option, Some, None, IsSome, refl, sym, ◌∙◌, ap, subst, arith}
+use Rattle.std.proofs.Common.{◌≡◌, ◌≢◌, ◌↔◌, ◌≤◌, ◌+◌, ℕ, min, length, List, [], ◌∷◌, Option, Some, None, IsSome, inl, inr, refl, sym, ◌∙◌, ap, subst, arith}
 use Rattle.std.specs.Prelude.{codes, map}
 use Rattle.abi_base.specs.Causes.{Rose, SameCounts}
 use Rattle.abi_base.specs.Limits.{sink_room}
@@ -11,7 +11,7 @@ use Rattle.abi_top.specs.Calls.{Call}
 use Rattle.abi_top.specs.Inputs.{library_at, rules_at}
 use Rattle.abi_top.specs.Rows.Check.{CheckSays, check_says}
 use Rattle.cli_args.specs.Commands.{PlainRequest, check}
-use Rattle.cli_args.specs.ParsedArguments.{arguments_by, request, usage, help}
+use Rattle.cli_args.specs.ParsedArguments.{arguments_by, request, usage, help, version}
 use Rattle.cli_args.specs.Words.{IsNoOption}
 use Rattle.commands.specs.Commands.{named, places_of}
 use Rattle.commands.specs.declared.input.Input.TheVariants.{Old, New}
@@ -62,6 +62,9 @@ asks_usage call asked is none = cc
 asks_help : (call : Call) (asked : PlainRequest) → arguments_by call.words ≡ request asked → arguments_by call.words ≡ help → ⊥
 asks_help call asked is none = cc
 
+asks_version : (call : Call) (asked : PlainRequest) → arguments_by call.words ≡ request asked → arguments_by call.words ≡ version → ⊥
+asks_version call asked is none = cc
+
 module _ (call : Call) (asked : PlainRequest) (is : arguments_by call.words ≡ request asked) where
   this : (outcome : Outcome) (text : List ℕ) → Asks call (λ a. Replies call.reading (row_of call a).inputs (row_of call a).says outcome text)
       → Replies call.reading (row_of call asked).inputs (row_of call asked).says outcome text
@@ -69,7 +72,10 @@ module _ (call : Call) (asked : PlainRequest) (is : arguments_by call.words ≡ 
 
   reply_of : (outcome : Outcome) (text : List ℕ) → Answers call outcome text → Replies call.reading (row_of call asked).inputs (row_of call asked).says outcome text
   reply_of Usage text answer = absurd (asks_usage call asked is answer.0)
-  reply_of Help text answer = absurd (asks_help call asked is answer.0)
+  reply_of Help text answer = elim answer [
+    | inl h ↦ absurd (asks_help call asked is h.0)
+    | inr h ↦ absurd (asks_version call asked is h.0)
+  ]
   reply_of (Judged v untyped) text answer = this (Judged v untyped) text answer
   reply_of (Unreadable which fault) text answer = this (Unreadable which fault) text answer
   reply_of (ReadFault which) text answer = this (ReadFault which) text answer

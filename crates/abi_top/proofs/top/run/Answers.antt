@@ -1,12 +1,14 @@
-use Rattle.std.proofs.Common.{◌≤◌, List, ℕ, length, map, subst, sym}
+use Rattle.std.proofs.Common.{◌≤◌, List, ℕ, inl, length, map, subst, sym}
 use Rattle.std.specs.Io.KnownBytes.{Appends}
 use Rattle.abi_base.specs.Causes.{AppendsFront}
 use Rattle.abi_top.specs.Answer.{Answers}
 use Rattle.abi_top.specs.Calls.{Call}
 use Rattle.cli_args.specs.Words.{texts}
 use Rattle.commands.specs.Reading.{reading_of}
+use Rattle.commands.specs.declared.outcome.Outcome.TheVariants.{Help}
 use Rattle.abi_top.proofs.ParsedArguments.{complete_says, fault_says}
 use Rattle.abi_top.proofs.Rows.{done_says, itself_says, no_agreed, no_says, refused_says, yes_agreed, yes_leaves, yes_says}
+use Rattle.abi_top.proofs.Single.{help_alone, help_says, usage_alone, version_alone}
 use Rattle.abi_top.proofs.top.run.Goals as goal
 
 pub returns-in-Ok-write_all-clause-yes : goal.returns-in-Ok-write_all-clause-yes
@@ -79,6 +81,37 @@ pub returns-in-Ok-write_all-clause-first_fault : goal.returns-in-Ok-write_all-cl
 returns-in-Ok-write_all-clause-first_fault g c = λ asked all which fault is tells after unfailed first sink memory.
     let call : Call = record { words = texts c.args.words.now; voices = map (λ b. (goal.Listener-dyn g (b.vtable, b.value)).voice b.value) c.args.listeners.items; reading = reading_of g.I.Inputs.told g.I.Inputs.faults g.I.Inputs.given g.I.Inputs.started c.args.inputs.now c.answer_to.new.inputs } in
     fault_says call asked is all tells after unfailed which fault first c.in-Ok.answer.outcome c.in-Ok.answer.text.items c.in-Ok.ensures.answers
+
+pub returns-in-Ok-write_all-clause-help : goal.returns-in-Ok-write_all-clause-help
+returns-in-Ok-write_all-clause-help g c = λ is other.
+    let call : Call = record { words = texts c.args.words.now; voices = map (λ b. (goal.Listener-dyn g (b.vtable, b.value)).voice b.value) c.args.listeners.items; reading = reading_of g.I.Inputs.told g.I.Inputs.faults g.I.Inputs.given g.I.Inputs.started c.args.inputs.now c.answer_to.new.inputs } in
+    let A : List ℕ → Type 0 = λ t. Appends (g.S.Sink.held c.args.sink.now) (g.S.Sink.held c.write_all.new.sink) t in
+    let whole : A c.in-Ok.answer.text.items = subst A c.deref.ensures.value c.in-Ok-write_all.ensures.whole in
+    let answers = subst (λ o. Answers call o c.in-Ok.answer.text.items) is c.in-Ok.ensures.answers in
+    help_says call c.in-Ok.answer.text.items A whole answers other
+
+pub returns-in-Ok-write_all-clause-version : goal.returns-in-Ok-write_all-clause-version
+returns-in-Ok-write_all-clause-version g c = λ is asked.
+    let call : Call = record { words = texts c.args.words.now; voices = map (λ b. (goal.Listener-dyn g (b.vtable, b.value)).voice b.value) c.args.listeners.items; reading = reading_of g.I.Inputs.told g.I.Inputs.faults g.I.Inputs.given g.I.Inputs.started c.args.inputs.now c.answer_to.new.inputs } in
+    let A : List ℕ → Type 0 = λ t. Appends (g.S.Sink.held c.args.sink.now) (g.S.Sink.held c.write_all.new.sink) t in
+    let whole : A c.in-Ok.answer.text.items = subst A c.deref.ensures.value c.in-Ok-write_all.ensures.whole in
+    let answers = subst (λ o. Answers call o c.in-Ok.answer.text.items) is c.in-Ok.ensures.answers in
+    subst A (version_alone call Help c.in-Ok.answer.text.items asked answers).1 whole
+
+pub returns-in-Ok-write_all-clause-wrong_words : goal.returns-in-Ok-write_all-clause-wrong_words
+returns-in-Ok-write_all-clause-wrong_words g c = λ asked.
+    let call : Call = record { words = texts c.args.words.now; voices = map (λ b. (goal.Listener-dyn g (b.vtable, b.value)).voice b.value) c.args.listeners.items; reading = reading_of g.I.Inputs.told g.I.Inputs.faults g.I.Inputs.given g.I.Inputs.started c.args.inputs.now c.answer_to.new.inputs } in
+    inl (usage_alone call c.in-Ok.answer.outcome c.in-Ok.answer.text.items asked c.in-Ok.ensures.answers).0
+
+pub returns-in-Ok-write_all-clause-help_words : goal.returns-in-Ok-write_all-clause-help_words
+returns-in-Ok-write_all-clause-help_words g c = λ asked.
+    let call : Call = record { words = texts c.args.words.now; voices = map (λ b. (goal.Listener-dyn g (b.vtable, b.value)).voice b.value) c.args.listeners.items; reading = reading_of g.I.Inputs.told g.I.Inputs.faults g.I.Inputs.given g.I.Inputs.started c.args.inputs.now c.answer_to.new.inputs } in
+    inl (help_alone call c.in-Ok.answer.outcome c.in-Ok.answer.text.items asked c.in-Ok.ensures.answers).0
+
+pub returns-in-Ok-write_all-clause-version_words : goal.returns-in-Ok-write_all-clause-version_words
+returns-in-Ok-write_all-clause-version_words g c = λ asked.
+    let call : Call = record { words = texts c.args.words.now; voices = map (λ b. (goal.Listener-dyn g (b.vtable, b.value)).voice b.value) c.args.listeners.items; reading = reading_of g.I.Inputs.told g.I.Inputs.faults g.I.Inputs.given g.I.Inputs.started c.args.inputs.now c.answer_to.new.inputs } in
+    inl (version_alone call c.in-Ok.answer.outcome c.in-Ok.answer.text.items asked c.in-Ok.ensures.answers).0
 
 pub returns-clause-front : goal.returns-clause-front
 returns-clause-front g c = λ is. (
