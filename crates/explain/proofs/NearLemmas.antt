@@ -3,7 +3,7 @@ use Rattle.std.proofs.Common.{◌≡◌, ◌<◌, ◌≤◌, ◌+◌, ℕ, List,
 use Rattle.std.specs.Prelude.{slice_get}
 use Rattle.std.proofs.Math.Nat.{eq-or-lt_of_le}
 use Rattle.std.proofs.lemmas.Option.{slice_get_within, slice_get-get_or}
-use Rattle.explain.specs.NearCommands.{command_names, edits, IsNear, IsNearest, IsOffered}
+use Rattle.explain.specs.NearCommands.{command_names, edits, IsOffered}
 
 -- of the names before a place, the first of the nearest ones, if at most two edits make it of the word
 pub record Best (word : List ℕ) (names : List (List ℕ)) (before least : ℕ) (name : List ℕ) : Type 0 where

@@ -1,5 +1,5 @@
-use Rattle.std.proofs.Common.{◌≡◌, ◌∙◌, List, ℕ, ap, arith, option_map, sym}
-use Rattle.explain.specs.NearCommands.{command_names, edits}
+use Rattle.std.proofs.Common.{◌∙◌, ap, arith, option_map, sym}
+use Rattle.explain.specs.NearCommands.{command_names}
 use Rattle.explain.proofs.NearLemmas.{edits_are, left, named, offered, taken}
 use Rattle.explain.proofs.wrong.near_command.Goals as goal
 use Rattle.explain.proofs.wrong.near_command.Goals.{in-Some+in_ok-edits+then-edits-least, in-Some+in_ok-edits+else-edits-least, in_default}
