@@ -1,4 +1,10 @@
 // The head of the document of a run: all members except the breaks.
+ghost use Rattle.std.specs.Prelude.{◌≡◌, codes, map, IfOk, OnOk};
+ghost use Rattle.commands.specs.Outcomes.{exit_number};
+ghost use Rattle.document_head.specs.Heads.{answer_word, command_word, fault_value, untyped_value, with_all, with_outcome, with_remarks, HasMember, HasText, IsTextMember};
+ghost use Rattle.serde_json.specs.Data.{number, object, string, unsigned};
+ghost use Rattle.serde_json.specs.View.{members_view, view};
+
 use crate::ending::{Ending, input_bytes};
 use crate::libraries::{InputFacts, input_facts, text_value};
 use crate::outcomes::{answer_word, fault_of, is_report, untyped_of};
@@ -138,11 +144,23 @@ fn of_report(outcome: Outcome, map: Map<String, Value>) -> Value {
 }
 
 // The text that `abi` prints, or null if the breaks replace it.
-fn text_of(alloc: Global, outcome: Outcome, text: &[u8]) -> Result<Value, AllocError> {
+fn text_of(alloc: Global, outcome: Outcome, text: &[u8]) -> Result<Value, AllocError>
+    ensures { IfOk result (λ value. IsTextMember outcome text.now (view value)) }
+{
     if is_report(outcome) {
         Ok(Value::Null)
     } else {
         text_value(alloc, text)
+    }
+}
+
+// The first argument, and the empty text if there is none.
+fn command_of<'e>(words: &[&'e str]) -> &'e str
+    ensures { result.now ≡ command_word (map (λ word. word.now) words.now) }
+{
+    match words.first() {
+        Some(word) => *word,
+        None => "",
     }
 }
 
@@ -151,8 +169,11 @@ fn put_outcome(
     alloc: Global,
     head: &mut Map<String, Value>,
     ending: &Ending<'_>,
-) -> Result<(), AllocError> {
-    let command = ending.words.first().copied().unwrap_or("");
+) -> Result<(), AllocError>
+    ensures { let command = command_word (map (λ word. word.now) ending.now.words.now) in
+        OnOk result (members_view head.new.entries ≡ with_outcome command ending.now.outcome (members_view head.old.entries)) }
+{
+    let command = command_of(ending.words);
     let answer = answer_word(ending.outcome);
     let status = u64::from(ending.outcome.number());
     put(head, alloc, "format", Value::from(FORMAT))?;
@@ -166,7 +187,9 @@ fn put_remarks(
     alloc: Global,
     head: &mut Map<String, Value>,
     outcome: Outcome,
-) -> Result<(), AllocError> {
+) -> Result<(), AllocError>
+    ensures { OnOk result (members_view head.new.entries ≡ with_remarks outcome (members_view head.old.entries)) }
+{
     put(head, alloc, "fault", fault_of(alloc, outcome)?)?;
     put(head, alloc, "untyped", untyped_of(alloc, outcome)?)
 }
@@ -208,30 +231,50 @@ fn put_inputs<R: Files + AllocGlobal>(
     Ok(())
 }
 
-// Adds the text that `abi` prints, unless the breaks replace it.
-fn put_text(
+// The members about the outcome and the text, added to others.
+fn with_ending(
     alloc: Global,
-    head: &mut Map<String, Value>,
+    others: Map<String, Value>,
     ending: &Ending<'_>,
-) -> Result<(), AllocError> {
-    let text = text_of(alloc, ending.outcome, ending.text)?;
-    put(head, alloc, "text", text)
+    text: Value,
+) -> Result<Value, AllocError>
+    ensures { let command = command_word (map (λ word. word.now) ending.now.words.now) in
+        IfOk result (λ head. view head
+        ≡ object (with_all command ending.now.outcome (view text) (members_view others.entries))) }
+{
+    let mut head = others;
+    put_outcome(alloc, &mut head, ending)?;
+    put_remarks(alloc, &mut head, ending.outcome)?;
+    put(&mut head, alloc, "text", text)?;
+    Ok(Value::Object(head))
 }
 
-/// All members except the breaks, given the array of the breaks as a text, and the notes on differences that no rule judges. No clause
-/// says what the members are.
+/// All members except the breaks, given the array of the breaks as a text, and the notes on differences that no rule judges: the
+/// format of the document, the first argument, the answer in a word, the exit number, the fault of an input, the numbers of exports
+/// without a type, and the text that `abi` prints. No clause says what the notes and the members about the inputs are.
 pub fn head_of<R: Files + AllocGlobal>(
     rt: &R,
     ending: &Ending<'_>,
     breaks: &[u8],
     side_notes: Value,
-) -> Result<Value, NoMemory> {
+) -> Result<Value, NoMemory>
+    ensures format { IfOk result (λ head. HasMember (codes "format") (number (unsigned 1)) (view head)) }
+    ensures command { let command = command_word (map (λ word. word.now) ending.now.words.now) in
+        IfOk result (λ head. HasMember (codes "command") (string command) (view head)) }
+    ensures answer { let answer = answer_word ending.now.outcome in
+        IfOk result (λ head. HasMember (codes "answer") (string answer) (view head)) }
+    ensures status { let status = exit_number ending.now.outcome in
+        IfOk result (λ head. HasMember (codes "status") (number (unsigned status)) (view head)) }
+    ensures fault { let fault = fault_value ending.now.outcome in
+        IfOk result (λ head. HasMember (codes "fault") fault (view head)) }
+    ensures untyped { let untyped = untyped_value ending.now.outcome in
+        IfOk result (λ head. HasMember (codes "untyped") untyped (view head)) }
+    ensures text { IfOk result (λ head. HasText ending.now.outcome ending.now.text.now (view head)) }
+{
     let alloc = rt.alloc();
-    let mut head = Map::new(alloc);
-    put_notes(rt, &mut head, ending, side_notes)?;
-    put_inputs(rt, &mut head, ending, breaks)?;
-    put_outcome(alloc, &mut head, ending)?;
-    put_remarks(alloc, &mut head, ending.outcome)?;
-    put_text(alloc, &mut head, ending)?;
-    Ok(Value::Object(head))
+    let mut others = Map::new(alloc);
+    put_notes(rt, &mut others, ending, side_notes)?;
+    put_inputs(rt, &mut others, ending, breaks)?;
+    let text = text_of(alloc, ending.outcome, ending.text)?;
+    Ok(with_ending(alloc, others, ending, text)?)
 }

@@ -1,6 +1,8 @@
 // The facts about inputs in a document.
-ghost use Rattle.std.specs.Prelude.{◌≤◌, length};
+ghost use Rattle.std.specs.Prelude.{◌≤◌, length, IfOk};
 ghost use Rattle.abi_base.specs.Limits.{input_limit};
+ghost use Rattle.document_head.specs.Heads.{IsTextOf};
+ghost use Rattle.serde_json.specs.View.{view};
 
 use crate::files::bytes_of;
 use crate::places::{TypeFacts, type_facts};
@@ -24,7 +26,9 @@ pub(crate) struct InputFacts {
 }
 
 /// Bytes as a text, or null if they are not UTF-8.
-pub(crate) fn text_value(alloc: Global, bytes: &[u8]) -> Result<Value, AllocError> {
+pub(crate) fn text_value(alloc: Global, bytes: &[u8]) -> Result<Value, AllocError>
+    ensures { IfOk result (λ value. IsTextOf bytes.now (view value)) }
+{
     match str::from_utf8(bytes) {
         Ok(text) => Value::try_from_str(alloc, text),
         Err(_) => Ok(Value::Null),

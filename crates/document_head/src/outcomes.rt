@@ -1,11 +1,18 @@
 // The members about the outcome of a run.
+ghost use Rattle.std.specs.Prelude.{◌≡◌, IfOk};
+ghost use Rattle.document_head.specs.Heads as spec;
+ghost use Rattle.document_head.specs.Heads.{fault_object, sized_object};
+ghost use Rattle.serde_json.specs.View.{view};
+
 use abi_base::{Fault, Remark, SizedExports};
 use commands::{Input, Outcome, Verdict};
-use serde_json::{Map, Value, json, put};
+use serde_json::{Value, json};
 use std::alloc::{AllocError, Global};
 
 // The word for an outcome.
-pub(crate) fn answer_word(outcome: Outcome) -> &'static str {
+pub(crate) fn answer_word(outcome: Outcome) -> &'static str
+    ensures { result.now ≡ spec.answer_word outcome }
+{
     match outcome {
         Outcome::Judged(Verdict::Yes, _) => "yes",
         Outcome::Judged(Verdict::No, _) => "no",
@@ -21,7 +28,9 @@ pub(crate) fn answer_word(outcome: Outcome) -> &'static str {
 }
 
 // The object of a fault.
-fn fault_value(alloc: Global, which: Input, fault: Fault) -> Result<Value, AllocError> {
+fn fault_value(alloc: Global, which: Input, fault: Fault) -> Result<Value, AllocError>
+    ensures { IfOk result (λ value. view value ≡ fault_object which fault) }
+{
     json!(in alloc; {
         "input": which.word(),
         "number": fault.kind.number(),
@@ -31,7 +40,9 @@ fn fault_value(alloc: Global, which: Input, fault: Fault) -> Result<Value, Alloc
 }
 
 // The fault of an outcome, or null.
-pub(crate) fn fault_of(alloc: Global, outcome: Outcome) -> Result<Value, AllocError> {
+pub(crate) fn fault_of(alloc: Global, outcome: Outcome) -> Result<Value, AllocError>
+    ensures { IfOk result (λ value. view value ≡ spec.fault_value outcome) }
+{
     match outcome {
         Outcome::Unreadable(which, fault) => fault_value(alloc, which, fault),
         _ => Ok(Value::Null),
@@ -39,20 +50,25 @@ pub(crate) fn fault_of(alloc: Global, outcome: Outcome) -> Result<Value, AllocEr
 }
 
 // The numbers of a library's exports with a size: of all, and of those without a type.
-fn sized_value(alloc: Global, exports: SizedExports) -> Result<Value, AllocError> {
+fn sized_value(alloc: Global, exports: SizedExports) -> Result<Value, AllocError>
+    ensures { IfOk result (λ value. view value ≡ sized_object exports) }
+{
     json!(in alloc; {"all": exports.all as u64, "untyped": exports.untyped as u64})
 }
 
 // The numbers of both libraries' exports with a size.
-fn remark_value(alloc: Global, remark: Remark) -> Result<Value, AllocError> {
-    let mut sides = Map::new(alloc);
-    put(&mut sides, alloc, "old", sized_value(alloc, remark.old)?)?;
-    put(&mut sides, alloc, "new", sized_value(alloc, remark.new)?)?;
-    Ok(Value::Object(sides))
+fn remark_value(alloc: Global, remark: Remark) -> Result<Value, AllocError>
+    ensures { IfOk result (λ value. view value ≡ spec.remark_value (Some remark)) }
+{
+    let old = sized_value(alloc, remark.old)?;
+    let new = sized_value(alloc, remark.new)?;
+    json!(in alloc; {"old": old, "new": new})
 }
 
 // The number of exports of both libraries without a type, or null.
-pub(crate) fn untyped_of(alloc: Global, outcome: Outcome) -> Result<Value, AllocError> {
+pub(crate) fn untyped_of(alloc: Global, outcome: Outcome) -> Result<Value, AllocError>
+    ensures { IfOk result (λ value. view value ≡ spec.untyped_value outcome) }
+{
     match outcome {
         Outcome::Judged(_, Some(remark)) => remark_value(alloc, remark),
         _ => Ok(Value::Null),
@@ -60,7 +76,9 @@ pub(crate) fn untyped_of(alloc: Global, outcome: Outcome) -> Result<Value, Alloc
 }
 
 // Whether the text is a report, which has the array of the breaks.
-pub(crate) fn is_report(outcome: Outcome) -> bool {
+pub(crate) fn is_report(outcome: Outcome) -> bool
+    ensures { result ≡ spec.is_report outcome }
+{
     match outcome {
         Outcome::Judged(Verdict::No, _) => true,
         _ => false,

@@ -1,3 +1,4 @@
 mod LineLemmas
+mod NearLemmas
 mod ProgramLemmas
 mod RuleLineLemmas

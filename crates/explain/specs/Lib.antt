@@ -1,5 +1,6 @@
 pub mod Limits
 pub mod Lines
+pub mod NearCommands
 pub mod Notes
 pub mod OtherInputs
 pub mod Programs

@@ -6,7 +6,10 @@ use Rattle.abi_base.specs.declared.fault.Fault.{Fault}
 use Rattle.abi_base.specs.declared.remark.SizedExports.{SizedExports}
 use Rattle.abi_base.specs.declared.remark.Remark.{Remark}
 use Rattle.cli_args.specs.WrongWords.{PlainWrong, missing_command, unknown_command, needless_option, wrong_count, unknown_style, wrong_number, unknown_option, missing_value, repeated_option, needless_value, other_words}
+use Rattle.cli_args.specs.declared.wrong.OptionName.{OptionName}
+use Rattle.cli_args.specs.declared.wrong.OptionName.TheVariants.{Rules, Report}
 use Rattle.explain.specs.Lines.{in_line}
+use Rattle.explain.specs.NearCommands.{IsOfUnknown}
 
 -- the sentence about an input at a path
 abbrev pub said_of : List ℕ → List ℕ → List ℕ
@@ -60,18 +63,27 @@ uncomposed_words second first last = concat (codes "with " ∷ second ∷ codes 
 abbrev pub SaysOf : List ℕ → List ℕ → Type 0
 SaysOf word text = (words : List ℕ) × (text ≡ said_of word words)
 
+-- the sentence about an unknown command, which offers the nearest one if one is near
+abbrev pub SaysUnknown : List ℕ → List ℕ → Type 0
+SaysUnknown word text = (words : List ℕ) × IsOfUnknown word words × (text ≡ said_of word words)
+
+-- the words about an option that a command does not take
+abbrev pub needless_words : OptionName → List ℕ
+needless_words Rules = codes "it takes no --rules FILE"
+needless_words Report = codes "it takes no --report STYLE"
+
 -- The sentence about wrong arguments: what is wrong with the argument at fault, if there is one.
 abbrev pub SaysWrong : PlainWrong → List ℕ → Type 0
 SaysWrong missing_command text = text ≡ codes "no command is given"
-SaysWrong (unknown_command word) text = SaysOf word text
-SaysWrong (needless_option command option) text = SaysOf command text
+SaysWrong (unknown_command word) text = SaysUnknown word text
+SaysWrong (needless_option command option) text = text ≡ said_of command (needless_words option)
 SaysWrong (wrong_count command wanted given) text = SaysOf command text
-SaysWrong (unknown_style word) text = SaysOf word text
-SaysWrong (wrong_number word) text = SaysOf word text
-SaysWrong (unknown_option word) text = SaysOf word text
-SaysWrong (missing_value option) text = SaysOf option text
-SaysWrong (repeated_option option) text = SaysOf option text
-SaysWrong (needless_value option) text = SaysOf option text
+SaysWrong (unknown_style word) text = text ≡ said_of word (codes "it is no style of reports; the styles are text, table, counts, first and own")
+SaysWrong (wrong_number word) text = text ≡ said_of word (codes "it is no number from 1 to 50000 in decimal")
+SaysWrong (unknown_option word) text = text ≡ said_of word (codes "it is no option; the options are --rules FILE and --report STYLE")
+SaysWrong (missing_value option) text = text ≡ said_of option (codes "the option has no value")
+SaysWrong (repeated_option option) text = text ≡ said_of option (codes "the option is given twice")
+SaysWrong (needless_value option) text = text ≡ said_of option (codes "the option takes no value")
 SaysWrong other_words text = text ≡ codes "the words fit no command"
 
 -- what is said of arguments of which one is not UTF-8

@@ -1,8 +1,9 @@
 // Arguments that form no request.
-ghost use Rattle.std.specs.Prelude.{◌≡◌, IfOk, IsTrue, string_bytes};
+ghost use Rattle.std.specs.Prelude.{◌≡◌, IfOk, IsTrue, option_map, slice_get, string_bytes};
 ghost use Rattle.cli_args.specs.WrongWords.{plain_wrong};
 ghost use Rattle.explain.specs.Lines.{is_one_line};
-ghost use Rattle.explain.specs.Sentences.{SaysOf, SaysWrong, encoding_words};
+ghost use Rattle.explain.specs.NearCommands.{command_names, IsOffered, IsOfUnknown};
+ghost use Rattle.explain.specs.Sentences.{SaysOf, SaysUnknown, SaysWrong, encoding_words, needless_words, said_of};
 
 use crate::lines::said;
 use abi_base::NoMemory;
@@ -25,18 +26,32 @@ const WRONG_NUMBER: &str = "it is no number from 1 to 50000 in decimal";
 
 const UNKNOWN_OPTION: &str = "it is no option; the options are --rules FILE and --report STYLE";
 
+// The name of the command at a position of the table.
+fn command_name(index: usize) -> Option<&'static str>
+    ensures { option_map (λ name. name.now) result ≡ slice_get command_names index }
+{
+    match COMMANDS.get(index) {
+        Some((name, _)) => Some(*name),
+        None => None,
+    }
+}
+
 // The command that is most similar to a word, if one is similar.
-fn near_command(alloc: Global, word: &str) -> Result<Option<&'static str>, AllocError> {
+fn near_command(alloc: Global, word: &str) -> Result<Option<&'static str>, AllocError>
+    ensures { IfOk result (λ found. IsOffered word.now (option_map (λ name. name.now) found)) }
+{
     let mut found = None;
     let mut least = FAR;
     if word.len() > LONGEST {
         return Ok(None);
     }
-    for (name, _) in COMMANDS.iter() {
-        let edits = generic_levenshtein(alloc, word.as_bytes(), name.as_bytes())?;
-        if edits < least {
-            found = Some(*name);
-            least = edits;
+    for index in 0..COMMANDS.len() {
+        if let Some(name) = command_name(index) {
+            let edits = generic_levenshtein(alloc, word.as_bytes(), name.as_bytes())?;
+            if edits < least {
+                found = Some(name);
+                least = edits;
+            }
         }
     }
     Ok(found)
@@ -53,7 +68,9 @@ fn words_behind(command: &str) -> &'static str {
 }
 
 // The words for an option that a command does not take.
-fn needless_option(option: OptionName) -> &'static str {
+fn needless_option(option: OptionName) -> &'static str
+    ensures { result.now ≡ needless_words option }
+{
     match option {
         OptionName::Rules => "it takes no --rules FILE",
         OptionName::Report => "it takes no --report STYLE",
@@ -61,7 +78,9 @@ fn needless_option(option: OptionName) -> &'static str {
 }
 
 // The words for an unknown command.
-fn unknown_command(alloc: Global, word: &str) -> Result<String, AllocError> {
+fn unknown_command(alloc: Global, word: &str) -> Result<String, AllocError>
+    ensures { IfOk result (λ words. IsOfUnknown word.now (string_bytes words)) }
+{
     match near_command(alloc, word)? {
         Some(near) => format!(in alloc; "it is no command; did you mean {near}?"),
         None => {
@@ -98,7 +117,7 @@ fn wrong_count(alloc: Global, command: &str, given: usize) -> Result<String, All
 
 // A sentence with these words about an argument.
 fn said_of_word(alloc: Global, word: &str, words: &str) -> Result<String, NoMemory>
-    ensures says { IfOk result (λ text. SaysOf word.now (string_bytes text)) }
+    ensures says { IfOk result (λ text. string_bytes text ≡ said_of word.now words.now) }
     ensures line { IfOk result (λ text. IsTrue (is_one_line (string_bytes text))) }
 {
     Ok(said(alloc, word, words)?)
@@ -106,7 +125,7 @@ fn said_of_word(alloc: Global, word: &str, words: &str) -> Result<String, NoMemo
 
 // The sentence on an unknown command.
 fn command_sentence(alloc: Global, word: &str) -> Result<String, NoMemory>
-    ensures says { IfOk result (λ text. SaysOf word.now (string_bytes text)) }
+    ensures says { IfOk result (λ text. SaysUnknown word.now (string_bytes text)) }
     ensures line { IfOk result (λ text. IsTrue (is_one_line (string_bytes text))) }
 {
     let words = unknown_command(alloc, word)?;

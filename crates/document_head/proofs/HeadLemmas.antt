@@ -1,0 +1,90 @@
+-- Members that stay where others are added.
+use Rattle.std.proofs.Common.{◌≡◌, ℕ, List, Some, Bool, true, false, true≢false, bytes_eq, refl, sym, ◌∙◌}
+use Rattle.std.specs.Prelude.{codes}
+use Rattle.std.proofs.lemmas.Slice.Eq.{bytes_eq-Decides}
+use Rattle.commands.specs.Outcomes.{exit_number}
+use Rattle.commands.specs.declared.outcome.Outcome.{Outcome}
+use Rattle.serde_json.specs.Data.{Data, number, unsigned, string, object, Members, put}
+use Rattle.serde_json.specs.Find.{get, get_member}
+use Rattle.serde_json.proofs.Views.{get_member-put, get_member-put_other}
+use Rattle.document_head.specs.Heads.{HasMember, answer_word, fault_value, untyped_value, with_all, with_outcome, with_remarks}
+
+apart : (q k : List ℕ) → bytes_eq q k ≡ false → q ≡ k → ⊥
+apart q k off same = true≢false (sym ((bytes_eq-Decides q k).1 same) ∙ off)
+
+stays : (q k : List ℕ) (d v : Data) (ms : Members) → bytes_eq q k ≡ false → get_member q ms ≡ Some v → get_member q (put k d ms) ≡ Some v
+stays q k d v ms off there = get_member-put_other q k d ms (apart q k off) ∙ there
+
+-- what the code adds before the status, and before the answer, the command and the remarks
+abbrev formatted : Members → Members
+formatted ms = put (codes "format") (number (unsigned 1)) ms
+
+abbrev commanded : List ℕ → Members → Members
+commanded command ms = put (codes "command") (string command) (formatted ms)
+
+abbrev answered : List ℕ → Outcome → Members → Members
+answered command outcome ms = put (codes "answer") (string (answer_word outcome)) (commanded command ms)
+
+abbrev faulted : List ℕ → Outcome → Members → Members
+faulted command outcome ms = put (codes "fault") (fault_value outcome) (with_outcome command outcome ms)
+
+pub text_member : (command : List ℕ) (outcome : Outcome) (text : Data) (ms : Members) → HasMember (codes "text") text (object (with_all command outcome text ms))
+text_member command outcome text ms = get_member-put (codes "text") text (with_remarks outcome (with_outcome command outcome ms))
+
+-- a member of what stands before the text is added
+before_text : (q : List ℕ) (v : Data) (command : List ℕ) (outcome : Outcome) (text : Data) (ms : Members) → bytes_eq q (codes "text") ≡ false
+    → get_member q (with_remarks outcome (with_outcome command outcome ms)) ≡ Some v → HasMember q v (object (with_all command outcome text ms))
+before_text q v command outcome text ms other there = stays q (codes "text") text v (with_remarks outcome (with_outcome command outcome ms)) other there
+
+pub untyped_member : (command : List ℕ) (outcome : Outcome) (text : Data) (ms : Members) → HasMember (codes "untyped") (untyped_value outcome) (object (with_all command outcome text ms))
+untyped_member command outcome text ms =
+    before_text (codes "untyped") (untyped_value outcome) command outcome text ms refl (get_member-put (codes "untyped") (untyped_value outcome) (faulted command outcome ms))
+
+-- a member of what stands before the untyped exports are added
+before_untyped : (q : List ℕ) (v : Data) (command : List ℕ) (outcome : Outcome) (text : Data) (ms : Members) → bytes_eq q (codes "text") ≡ false → bytes_eq q (codes "untyped") ≡ false
+    → get_member q (faulted command outcome ms) ≡ Some v → HasMember q v (object (with_all command outcome text ms))
+before_untyped q v command outcome text ms one two there =
+    before_text q v command outcome text ms one (stays q (codes "untyped") (untyped_value outcome) v (faulted command outcome ms) two there)
+
+pub fault_member : (command : List ℕ) (outcome : Outcome) (text : Data) (ms : Members) → HasMember (codes "fault") (fault_value outcome) (object (with_all command outcome text ms))
+fault_member command outcome text ms =
+    before_untyped (codes "fault") (fault_value outcome) command outcome text ms refl refl (get_member-put (codes "fault") (fault_value outcome) (with_outcome command outcome ms))
+
+-- a member of what stands before the fault is added
+before_fault : (q : List ℕ) (v : Data) (command : List ℕ) (outcome : Outcome) (text : Data) (ms : Members)
+    → bytes_eq q (codes "text") ≡ false → bytes_eq q (codes "untyped") ≡ false → bytes_eq q (codes "fault") ≡ false
+    → get_member q (with_outcome command outcome ms) ≡ Some v → HasMember q v (object (with_all command outcome text ms))
+before_fault q v command outcome text ms one two three there =
+    before_untyped q v command outcome text ms one two (stays q (codes "fault") (fault_value outcome) v (with_outcome command outcome ms) three there)
+
+pub status_member : (command : List ℕ) (outcome : Outcome) (text : Data) (ms : Members)
+    → HasMember (codes "status") (number (unsigned (exit_number outcome))) (object (with_all command outcome text ms))
+status_member command outcome text ms =
+    before_fault (codes "status") (number (unsigned (exit_number outcome))) command outcome text ms refl refl refl
+    (get_member-put (codes "status") (number (unsigned (exit_number outcome))) (answered command outcome ms))
+
+-- a member of what stands before the status is added
+before_status : (q : List ℕ) (v : Data) (command : List ℕ) (outcome : Outcome) (ms : Members) → bytes_eq q (codes "status") ≡ false
+    → get_member q (answered command outcome ms) ≡ Some v → get_member q (with_outcome command outcome ms) ≡ Some v
+before_status q v command outcome ms other there = stays q (codes "status") (number (unsigned (exit_number outcome))) v (answered command outcome ms) other there
+
+pub answer_member : (command : List ℕ) (outcome : Outcome) (text : Data) (ms : Members)
+    → HasMember (codes "answer") (string (answer_word outcome)) (object (with_all command outcome text ms))
+answer_member command outcome text ms =
+    before_fault (codes "answer") (string (answer_word outcome)) command outcome text ms refl refl refl
+    (before_status (codes "answer") (string (answer_word outcome)) command outcome ms refl (get_member-put (codes "answer") (string (answer_word outcome)) (commanded command ms)))
+
+pub command_member : (command : List ℕ) (outcome : Outcome) (text : Data) (ms : Members)
+    → HasMember (codes "command") (string command) (object (with_all command outcome text ms))
+command_member command outcome text ms =
+    before_fault (codes "command") (string command) command outcome text ms refl refl refl
+    (before_status (codes "command") (string command) command outcome ms refl
+    (stays (codes "command") (codes "answer") (string (answer_word outcome)) (string command) (commanded command ms) refl (get_member-put (codes "command") (string command) (formatted ms))))
+
+pub format_member : (command : List ℕ) (outcome : Outcome) (text : Data) (ms : Members)
+    → HasMember (codes "format") (number (unsigned 1)) (object (with_all command outcome text ms))
+format_member command outcome text ms =
+    before_fault (codes "format") (number (unsigned 1)) command outcome text ms refl refl refl
+    (before_status (codes "format") (number (unsigned 1)) command outcome ms refl
+    (stays (codes "format") (codes "answer") (string (answer_word outcome)) (number (unsigned 1)) (commanded command ms) refl
+    (stays (codes "format") (codes "command") (string command) (number (unsigned 1)) (formatted ms) refl (get_member-put (codes "format") (number (unsigned 1)) ms))))

@@ -1,0 +1,41 @@
+use Rattle.std.proofs.Common.{◌∙◌, ap, map}
+use Rattle.std.specs.Prelude.{codes}
+use Rattle.document_head.specs.Heads.{command_word}
+use Rattle.document_head.proofs.HeadLemmas.{answer_member, command_member, fault_member, format_member, status_member, text_member, untyped_member}
+use Rattle.serde_json.specs.Find.{get}
+use Rattle.serde_json.specs.View.{members_view, view}
+use Rattle.document_head.proofs.head.head_of.Goals as goal
+
+pub returns-clause-format : goal.returns-clause-format
+returns-clause-format g c =
+    ap (get (codes "format")) c.in_ok-with_ending.ensures
+    ∙ format_member (command_word (map (λ word. word.now) c.args.ending.now.words.now)) c.args.ending.now.outcome (view c.in_ok-text.text) (members_view c.put_inputs.new.head.entries)
+
+pub returns-clause-command : goal.returns-clause-command
+returns-clause-command g c =
+    ap (get (codes "command")) c.in_ok-with_ending.ensures
+    ∙ command_member (command_word (map (λ word. word.now) c.args.ending.now.words.now)) c.args.ending.now.outcome (view c.in_ok-text.text) (members_view c.put_inputs.new.head.entries)
+
+pub returns-clause-answer : goal.returns-clause-answer
+returns-clause-answer g c =
+    ap (get (codes "answer")) c.in_ok-with_ending.ensures
+    ∙ answer_member (command_word (map (λ word. word.now) c.args.ending.now.words.now)) c.args.ending.now.outcome (view c.in_ok-text.text) (members_view c.put_inputs.new.head.entries)
+
+pub returns-clause-status : goal.returns-clause-status
+returns-clause-status g c =
+    ap (get (codes "status")) c.in_ok-with_ending.ensures
+    ∙ status_member (command_word (map (λ word. word.now) c.args.ending.now.words.now)) c.args.ending.now.outcome (view c.in_ok-text.text) (members_view c.put_inputs.new.head.entries)
+
+pub returns-clause-fault : goal.returns-clause-fault
+returns-clause-fault g c =
+    ap (get (codes "fault")) c.in_ok-with_ending.ensures
+    ∙ fault_member (command_word (map (λ word. word.now) c.args.ending.now.words.now)) c.args.ending.now.outcome (view c.in_ok-text.text) (members_view c.put_inputs.new.head.entries)
+
+pub returns-clause-untyped : goal.returns-clause-untyped
+returns-clause-untyped g c =
+    ap (get (codes "untyped")) c.in_ok-with_ending.ensures
+    ∙ untyped_member (command_word (map (λ word. word.now) c.args.ending.now.words.now)) c.args.ending.now.outcome (view c.in_ok-text.text) (members_view c.put_inputs.new.head.entries)
+
+pub returns-clause-text : goal.returns-clause-text
+returns-clause-text g c =
+    (view c.in_ok-text.text, c.in_ok-text.ensures, ap (get (codes "text")) c.in_ok-with_ending.ensures ∙ text_member (command_word (map (λ word. word.now) c.args.ending.now.words.now)) c.args.ending.now.outcome (view c.in_ok-text.text) (members_view c.put_inputs.new.head.entries))
