@@ -12,3 +12,5 @@ mod MadeLemmas
 mod OneList
 mod OneCert
 mod FirstLost
+mod FittingLemmas
+mod LimitLemmas

@@ -7,3 +7,5 @@ pub mod CertifiedChain
 pub mod Losses
 pub mod Refusals
 pub mod Binds
+pub mod Limits
+pub mod Spending

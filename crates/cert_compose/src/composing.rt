@@ -1,5 +1,6 @@
 // The certificate that two certificates compose.
 ghost use Rattle.std.specs.Prelude.{◌≡◌, ◌<◌, ◌+◌, ◌^◌, ◌↔◌, ℕ, Contains, length, IfOk, OnOk, IfErr};
+ghost use Rattle.abi_base.specs.declared.fault.NoMemory.TheVariants.{Allocation};
 ghost use Rattle.std.specs.List.Sorted.{IsNonDecreasingBy};
 ghost use Rattle.cert_text.specs.Certs.{Ascend, PairLine, first_cmp, pair_cmp};
 ghost use Rattle.cert_check.specs.Accepted.{IsAccepted};
@@ -8,6 +9,7 @@ ghost use Rattle.cert_compose.specs.Chains.{IsChain, far_case, joint};
 ghost use Rattle.cert_compose.specs.Composed.{IsComposed};
 ghost use Rattle.cert_compose.specs.CertifiedChain.{chain_of};
 ghost use Rattle.cert_compose.specs.Joins.{first_of, joins};
+ghost use Rattle.cert_compose.specs.Limits.{CompositionPasses, OnRefusal};
 ghost use Rattle.cert_compose.specs.Middles.{IsMiddle};
 ghost use Rattle.cert_compose.specs.Refusals.{IsRefusal};
 
@@ -43,6 +45,7 @@ fn pair_lines(
     ensures ascend { IfOk result (Ascend pair_cmp) }
     ensures exact { IfOk result (λ lines. (line : PairLine)
         → Contains lines line ↔ Contains (joins ones.now.alike.now others.now.alike.now others.now.pairs.now middles.now ones.now.pairs.now) line) }
+    ensures named { IfErr result (λ e. e ≡ Allocation) }
 {
     let mut lines = join(alloc, ones, others, middles)?.into_vec();
     sort_lines(&mut lines);
@@ -74,7 +77,8 @@ fn composed(
     requires chain { IsChain (chain_of ground.now) }
     requires rises { IsNonDecreasingBy first_of middles.now }
     requires exact { (m : ℕ × ℕ) → Contains middles.now m ↔ IsMiddle (chain_of ground.now) m }
-    ensures { IfOk result (IsComposed (chain_of ground.now)) }
+    ensures composed { IfOk result (IsComposed (chain_of ground.now)) }
+    ensures named { IfErr result (λ e. e ≡ Allocation) }
 {
     what_is_accepted_keeps_all();
     lines_are_found_where_they_stand();
@@ -117,7 +121,9 @@ fn composed(
 
 /// Composes the certificate that the last library of a chain may replace the first, from the certificates `one`, that the middle
 /// library may replace the first, and `other`, that the last may replace the middle one. The checker accepts it, without
-/// suppressions. If something is lost between the first and the last library, the refusal names the first loss.
+/// suppressions. If something is lost between the first and the last library, the refusal names the first loss. A limit is named only if the
+/// certificates pass it.
+#[tactic(auto, using(crate::proofs::LimitLemmas::allocation_passes))]
 pub fn compose(
     alloc: Global,
     chain: &Chain,
@@ -130,6 +136,7 @@ pub fn compose(
     ensures nothing { OnOk result (NothingBetween (joint chain.now.first.now chain.now.middle_new.now chain.now.last.now one.now other.now)) }
     ensures accepted { IfOk result (λ cert. IsAccepted (far_case (joint chain.now.first.now chain.now.middle_new.now chain.now.last.now one.now other.now) cert)) }
     ensures refused { IfErr result (IsRefusal (joint chain.now.first.now chain.now.middle_new.now chain.now.last.now one.now other.now)) }
+    ensures past { IfErr result (λ e. OnRefusal e (CompositionPasses (joint chain.now.first.now chain.now.middle_new.now chain.now.last.now one.now other.now))) }
 {
     what_is_composed_is_accepted();
     let ground = CertifiedChain {

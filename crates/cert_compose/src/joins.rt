@@ -1,7 +1,8 @@
 // The pair lines that two certificates compose.
-ghost use Rattle.std.specs.Prelude.{◌≡◌, ◌≤◌, ◌++◌, ℕ, length, true, false, IfOk, OnOk};
+ghost use Rattle.std.specs.Prelude.{◌≡◌, ◌≤◌, ◌++◌, ℕ, length, true, false, IfErr, IfOk, OnOk};
 ghost use Rattle.std.proofs.Common.{ltb};
 ghost use Rattle.std.specs.List.Sorted.{IsPartitionPoint, IsNonDecreasingBy};
+ghost use Rattle.abi_base.specs.declared.fault.NoMemory.TheVariants.{Allocation};
 ghost use Rattle.cert_text.specs.Certs.{Ascend, PairLine, first_cmp, pair_cmp};
 ghost use Rattle.cert_compose.specs.Joins.{followed, followed_by, joins, first_of, line_first, same_way};
 ghost use Rattle.cert_compose.specs.Joins as spec;
@@ -58,7 +59,8 @@ fn put_followed(
     line: (u64, u64, Way),
 ) -> Result<(), NoMemory>
     requires { Ascend first_cmp alike.now }
-    ensures { OnOk result (lines.new ≡ lines.old ++ followed_by alike.now key.0 key.1 key.2 line) }
+    ensures put { OnOk result (lines.new ≡ lines.old ++ followed_by alike.now key.0 key.1 key.2 line) }
+    ensures named { IfErr result (λ e. e ≡ Allocation) }
 {
     if line.0 == key.1 && is_same_way(line.2, key.2) && line_of(alike, line.1).is_none() {
         return lines.push((key.0, line.1, key.2));
@@ -75,7 +77,8 @@ fn follow(
 ) -> Result<(), NoMemory>
     requires alike { Ascend first_cmp alike.now }
     requires seconds { Ascend pair_cmp seconds.now }
-    ensures { OnOk result (lines.new ≡ lines.old ++ followed alike.now seconds.now key.0 key.1 key.2) }
+    ensures appended { OnOk result (lines.new ≡ lines.old ++ followed alike.now seconds.now key.0 key.1 key.2) }
+    ensures named { IfErr result (λ e. e ≡ Allocation) }
 {
     let start = lines_from(seconds, key.1);
     for k in start..seconds.len() {
@@ -88,7 +91,8 @@ fn follow(
     Ok(())
 }
 
-/// Appends the lines that go through the middle library from an old entry, given the middle entry with which it is paired.
+/// Appends the lines that go through the middle library from an old entry, given the middle entry with which it is paired. It fails only
+/// where an allocation does.
 pub fn through(
     lines: &mut List<(u64, u64, Way)>,
     alike: &[(u64, u64)],
@@ -99,8 +103,9 @@ pub fn through(
     requires alike { Ascend first_cmp alike.now }
     requires seconds { Ascend pair_cmp seconds.now }
     requires middles { IsNonDecreasingBy first_of middles.now }
-    ensures { OnOk result (lines.new
+    ensures appended { OnOk result (lines.new
         ≡ lines.old ++ spec.through alike.now seconds.now middles.now line.0 line.1 line.2) }
+    ensures named { IfErr result (λ e. e ≡ Allocation) }
 {
     let start = middles_from(middles, line.1);
     for k in start..middles.len() {
@@ -113,7 +118,7 @@ pub fn through(
     Ok(())
 }
 
-/// The lines that the lines of the first certificate give, in the order in which they are found.
+/// The lines that the lines of the first certificate give, in the order in which they are found. It fails only where an allocation does.
 pub fn join(
     alloc: Global,
     ones: &Lines,
@@ -124,8 +129,9 @@ pub fn join(
     requires alike_new { Ascend first_cmp others.now.alike.now }
     requires seconds { Ascend pair_cmp others.now.pairs.now }
     requires middles { IsNonDecreasingBy first_of middles.now }
-    ensures { IfOk result (λ lines. lines
+    ensures joined { IfOk result (λ lines. lines
         ≡ joins ones.now.alike.now others.now.alike.now others.now.pairs.now middles.now ones.now.pairs.now) }
+    ensures named { IfErr result (λ e. e ≡ Allocation) }
 {
     let mut lines = List::new(alloc);
     for line in ones.pairs {

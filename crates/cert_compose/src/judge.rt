@@ -6,6 +6,7 @@ ghost use Rattle.cert_compose.specs.Between.{NothingBetween};
 ghost use Rattle.cert_compose.specs.Chains.{IsChain};
 ghost use Rattle.cert_compose.specs.CertifiedChain.{chain_of};
 ghost use Rattle.cert_compose.specs.Joins.{first_of};
+ghost use Rattle.cert_compose.specs.Limits.{OnRefusal};
 ghost use Rattle.cert_compose.specs.Middles.{IsMiddle};
 ghost use Rattle.cert_compose.specs.Refusals.{IsRefusal};
 
@@ -24,7 +25,8 @@ fn lost(kind: RefusedKind, at: u64) -> ComposeRefusal
     ComposeRefusal::Between(Refused { kind, at })
 }
 
-/// Returns Ok if nothing is lost, else the first loss.
+/// Returns Ok if nothing is lost, else the first loss. Memory runs out only where an allocation fails.
+#[tactic(auto, using(crate::proofs::LimitLemmas::loss_passes, crate::proofs::LimitLemmas::allocation_passes))]
 pub fn judge(
     alloc: Global,
     ground: &CertifiedChain,
@@ -35,6 +37,7 @@ pub fn judge(
     requires exact { (m : ℕ × ℕ) → Contains middles.now m ↔ IsMiddle (chain_of ground.now) m }
     ensures nothing { OnOk result (NothingBetween (chain_of ground.now)) }
     ensures refused { IfErr result (IsRefusal (chain_of ground.now)) }
+    ensures named { IfErr result (λ e. OnRefusal e (λ l. ⊥)) }
 {
     what_is_accepted_keeps_all();
     lines_are_found_where_they_stand();

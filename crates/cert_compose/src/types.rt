@@ -1,9 +1,10 @@
 // The types that are lost if the middle library is skipped.
-ghost use Rattle.std.specs.Prelude.{◌≡◌, ◌<◌, ◌↔◌, ◌&&◌, ◌||◌, not, is_none, IsTrue, length, false, None, Some, Contains, IfOk, OnOk, MatchOption};
+ghost use Rattle.std.specs.Prelude.{◌≡◌, ◌<◌, ◌↔◌, ◌&&◌, ◌||◌, not, is_none, IsTrue, length, false, None, Some, Contains, IfErr, IfOk, OnOk, MatchOption};
 ghost use Rattle.std.specs.Option.{option_map};
 ghost use Rattle.std.specs.List.{list_all};
 ghost use Rattle.std.specs.List.Sorted.{IsNonDecreasingBy, IsPermutation, IsSorted};
 ghost use Rattle.std.specs.Ordering.{nat_cmp};
+ghost use Rattle.abi_base.specs.declared.fault.NoMemory.TheVariants.{Allocation};
 ghost use Rattle.abi_types.specs.Graphs.{node_at, node_of, view_at};
 ghost use Rattle.cert_text.specs.Certs.{Ascend, PairLine, first_cmp, pair_cmp};
 ghost use Rattle.cert_check.specs.Accepted.{class_in};
@@ -99,7 +100,8 @@ fn line_keeps(
     line: (u64, u64, Way),
 ) -> Result<bool, NoMemory>
     requires { IsNonDecreasingBy first_of middles.now }
-    ensures { IfOk result (λ keeps. keeps ≡ losses.line_keeps (chain_of ground.now) middles.now line) }
+    ensures keeps { IfOk result (λ keeps. keeps ≡ losses.line_keeps (chain_of ground.now) middles.now line) }
+    ensures named { IfErr result (λ e. e ≡ Allocation) }
 {
     match line_of(alike_old_of(ground.one), line.0) {
         Some(_) => return Ok(true),
@@ -120,7 +122,8 @@ fn lost_entries(
     lines: &[(u64, u64, Way)],
 ) -> Result<Vec<u64>, NoMemory>
     requires { IsNonDecreasingBy first_of middles.now }
-    ensures { IfOk result (λ lost. lost.items ≡ losses.lost_entries (chain_of ground.now) middles.now lines.now) }
+    ensures lost { IfOk result (λ lost. lost.items ≡ losses.lost_entries (chain_of ground.now) middles.now lines.now) }
+    ensures named { IfErr result (λ e. e ≡ Allocation) }
 {
     let mut lost = Vec::new(alloc);
     for line in lines {
@@ -200,14 +203,15 @@ fn least_lost<Ix: Index>(graph: &Graph<Ix>, alike: &[(u64, u64)], lost: &[u64]) 
     least
 }
 
-/// The least entry of the first library whose type is lost if the middle library is skipped.
+/// The least entry of the first library whose type is lost if the middle library is skipped. It fails only where an allocation does.
 pub fn least_entry(
     alloc: Global,
     ground: &CertifiedChain,
     middles: &[(u64, u64)],
 ) -> Result<Option<u64>, NoMemory>
     requires { IsNonDecreasingBy first_of middles.now }
-    ensures { IfOk result (λ found. FindsLeastEntry (chain_of ground.now) middles.now found) }
+    ensures found { IfOk result (λ found. FindsLeastEntry (chain_of ground.now) middles.now found) }
+    ensures named { IfErr result (λ e. e ≡ Allocation) }
 {
     let mut lost = lost_entries(alloc, ground, middles, pairs_of(ground.one))?;
     if lost.is_empty() {

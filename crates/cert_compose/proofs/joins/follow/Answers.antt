@@ -11,17 +11,17 @@ loop-k-init c =
     (run_starts line_first c.args.key.1 g (followed_none c.args.alike.now c.args.key.0 c.args.key.1 c.args.key.2) c.args.seconds.now (lines_rise c.args.seconds.now c.requires.seconds)
     c.lines_from-start.result c.lines_from-start.ensures.inside c.lines_from-start.ensures.parts)
 
-pub returns-then-line-key : goal.returns-then-line-key
+pub returns-then-line-key-clause-appended : goal.returns-then-line-key-clause-appended
 unfolding followed
-returns-then-line-key c =
+returns-then-line-key-clause-appended c =
     let g = followed_by c.args.alike.now c.args.key.0 c.args.key.1 c.args.key.2 in
     with_all c.loop-k.lines c.args.lines.now (flat_map g (take c.loop-k.k c.args.seconds.now)) (flat_map g c.args.seconds.now) c.loop-k.invariant
     (run_ends line_first c.args.key.1 g (followed_none c.args.alike.now c.args.key.0 c.args.key.1 c.args.key.2) c.args.seconds.now (lines_rise c.args.seconds.now c.requires.seconds)
     c.lines_from-start.result c.loop-k.k _ c.loop-k.auto.k c.loop-k-test.true c.lines_from-start.ensures.parts c.if-line-key.true)
 
-pub returns : goal.returns
+pub returns-clause-appended : goal.returns-clause-appended
 unfolding followed
-returns c =
+returns-clause-appended c =
     let g = followed_by c.args.alike.now c.args.key.0 c.args.key.1 c.args.key.2 in
     with_all c.loop-k.lines c.args.lines.now (flat_map g (take c.loop-k.k c.args.seconds.now)) (flat_map g c.args.seconds.now) c.loop-k.invariant
     (all_given g c.args.seconds.now c.loop-k.k c.loop-k-test.false)

@@ -29,7 +29,7 @@ returns-in-None-2-clause-nothing c =
     let ch = chain_of c.args.ground.now in
     let look_ups : LineLaws = record { found = c.lines_are_found_where_they_stand.ensures.found; missing = c.lines_are_found_where_they_stand.ensures.missing; pairs = c.lines_are_found_where_they_stand.ensures.pairs } in
     nothing look_ups c.rules_see_no_nodes.ensures.breaks c.what_is_accepted_keeps_all.ensures ch c.requires.chain c.args.middles.now c.requires.exact c.in-None.ensures c.in-None-first_broken.ensures c.in-None-first_untyped.ensures
-    (subst (λ (o : Option ℕ). FindsLeastEntry ch c.args.middles.now o) c.in-None-2.is c.in_ok-least_entry.ensures)
+    (subst (λ (o : Option ℕ). FindsLeastEntry ch c.args.middles.now o) c.in-None-2.is c.in_ok-least_entry.ensures.found)
 
 pub returns-in-Some-2-clause-refused : goal.returns-in-Some-2-clause-refused
 returns-in-Some-2-clause-refused c =
@@ -40,5 +40,5 @@ returns-in-Some-2-clause-refused c =
       all_keep ch c.in-None-first_broken.ensures,
       all_typed ch c.in-None-first_untyped.ensures,
       least_unkept look_ups c.rules_see_no_nodes.ensures.breaks c.what_is_accepted_keeps_all.ensures ch c.requires.chain c.args.middles.now c.requires.exact c.in-Some-2.at
-          (subst (λ (o : Option ℕ). FindsLeastEntry ch c.args.middles.now o) c.in-Some-2.is c.in_ok-least_entry.ensures),
+          (subst (λ (o : Option ℕ). FindsLeastEntry ch c.args.middles.now o) c.in-Some-2.is c.in_ok-least_entry.ensures.found),
     )
