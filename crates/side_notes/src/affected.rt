@@ -62,10 +62,10 @@ fn first_visits(alloc: Global, explored: &Explored) -> Result<List<usize>, NoMem
 // ---- one row
 
 // The old library, an exploration of its types beside those of a new one, and the arrows between its visits.
-#[derive(Clone, Copy)]
-struct Ground<'x, 'l, 'o, 'n, 'og, 'oc, 'ng, 'nc> {
-    library: &'x Library<'l, OldIx>,
-    walk: &'x Walk<'x, 'o, 'n, 'og, 'oc, 'ng, 'nc>,
+#[derive(Drop)]
+struct Ground<'x, 'c, 'o, 'n> {
+    library: &'x Library<'o, OldIx>,
+    walk: &'x Walk<'x, 'o, 'n, 'c, 'o, 'c, 'n>,
     arrows: &'x [Arrow],
 }
 
@@ -103,7 +103,7 @@ fn row_text(alloc: Global, library: &Library<OldIx>, route: &Route) -> Result<Li
 }
 
 // A row on types, by the position of its export and its text.
-#[derive(Clone, Copy)]
+#[derive(Drop)]
 struct TypeRow<'x, 'o> {
     library: &'x Library<'o, OldIx>,
     export: u32,
@@ -234,17 +234,17 @@ fn push_others(
 }
 
 // The number of a visit, and the exports that lead to its types.
-#[derive(Clone, Copy)]
+#[derive(Drop)]
 struct LedVisit<'x> {
     number: usize,
     exports: &'x [u32],
 }
 
 // Adds the notes on exports at the row of a visit.
-fn push_at(
+fn push_at<'x, 'c, 'o, 'n>(
     alloc: Global,
     notes: &mut List<Note>,
-    ground: &Ground,
+    ground: &'x Ground<'x, 'c, 'o, 'n>,
     led: &LedVisit,
     room: &mut NoteRoom,
 ) -> Result<(), NoMemory>
@@ -270,10 +270,10 @@ fn push_at(
 // ---- all rows
 
 // Adds the notes at the row of the visit of a number.
-fn push_row(
+fn push_row<'x, 'c, 'o, 'n>(
     alloc: Global,
     notes: &mut List<Note>,
-    ground: &Ground,
+    ground: &'x Ground<'x, 'c, 'o, 'n>,
     number: usize,
     room: &mut NoteRoom,
 ) -> Result<(), NoMemory>
@@ -295,7 +295,11 @@ fn push_row(
 
 // The notes at the rows of the visits with these numbers. Where it takes too many steps, or the notes have too many bytes, memory
 // counts as run out.
-fn rows_of(alloc: Global, ground: &Ground, numbers: &[usize]) -> Result<List<Note>, NoMemory>
+fn rows_of<'x, 'c, 'o, 'n>(
+    alloc: Global,
+    ground: &'x Ground<'x, 'c, 'o, 'n>,
+    numbers: &[usize],
+) -> Result<List<Note>, NoMemory>
     requires spelled { AreSpelled ground.now.library.now ground.now.walk.now.visits.now }
     requires walk { IsWalk (scope_of ground.now.walk.now.ground.now) ground.now.walk.now.visits.now ground.now.walk.now.numbers.now }
     requires arrows { ground.now.arrows.now
@@ -313,12 +317,12 @@ fn rows_of(alloc: Global, ground: &Ground, numbers: &[usize]) -> Result<List<Not
 // ---- two libraries
 
 // The notes at the rows of what was explored, by the arrows between its visits.
-fn with_arrows(
+fn with_arrows<'x, 'c, 'o, 'n>(
     alloc: Global,
-    library: &Library<OldIx>,
-    walk: &Walk,
-    arrows: &[Arrow],
-    explored: &Explored,
+    library: &'x Library<'o, OldIx>,
+    walk: &'x Walk<'x, 'o, 'n, 'c, 'o, 'c, 'n>,
+    arrows: &'x [Arrow],
+    explored: &'x Explored,
 ) -> Result<List<Note>, NoMemory>
     requires spelled { AreSpelled library.now walk.now.visits.now }
     requires walk { IsWalk (scope_of walk.now.ground.now) walk.now.visits.now walk.now.numbers.now }
@@ -335,11 +339,11 @@ fn with_arrows(
 }
 
 // The notes at the rows of what was explored, with a counter of steps.
-fn with_walk<L: Ledger>(
+fn with_walk<'x, 'c, 'o, 'n, L: Ledger>(
     alloc: Global,
-    library: &Library<OldIx>,
-    walk: &Walk,
-    explored: &Explored,
+    library: &'x Library<'o, OldIx>,
+    walk: &'x Walk<'x, 'o, 'n, 'c, 'o, 'c, 'n>,
+    explored: &'x Explored,
     steps: &mut Steps<L>,
 ) -> Result<List<Note>, NoMemory>
     requires spelled { AreSpelled library.now walk.now.visits.now }
@@ -351,11 +355,11 @@ fn with_walk<L: Ledger>(
 }
 
 // The notes at the rows of what was explored, with a counter of steps. It first numbers the visits.
-fn with_explored<L: Ledger>(
+fn with_explored<'x, 'c, 'o, 'n, L: Ledger>(
     alloc: Global,
-    library: &Library<OldIx>,
-    graphs: &GraphPair,
-    explored: &Explored,
+    library: &'x Library<'o, OldIx>,
+    graphs: &'x GraphPair<'x, 'o, 'n, 'c, 'o, 'c, 'n>,
+    explored: &'x Explored,
     steps: &mut Steps<L>,
 ) -> Result<List<Note>, NoMemory>
     requires spelled { AreSpelled library.now explored.now.visits }

@@ -11,7 +11,7 @@ use abi_types::Marks;
 use std::alloc::Global;
 
 /// What becomes of an old export where two libraries are compared.
-#[derive(Clone, Copy, Debug, PartialEq, Eq)]
+#[derive(Clone, Copy, PartialEq)]
 pub enum Fate {
     /// A rule drops it.
     Dropped,
@@ -22,7 +22,7 @@ pub enum Fate {
 }
 
 /// How many old exports have each fate.
-#[derive(Clone, Copy, Debug, PartialEq, Eq)]
+#[derive(Drop)]
 pub struct Counts {
     /// How many are compared with a new one.
     pub compared: usize,

@@ -20,7 +20,7 @@ use type_notes::{Note, NoteKind};
 pub type Kin<'n> = BTreeMap<&'n [u8], usize>;
 
 /// Two libraries, and the result of `kin_of` for them.
-#[derive(Clone, Copy)]
+#[derive(Drop)]
 pub struct Related<'x, 'o, 'n> {
     pub old: &'x Library<'o, OldIx>,
     pub new: &'x Library<'n, NewIx>,

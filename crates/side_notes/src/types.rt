@@ -50,10 +50,10 @@ pub struct Beside {
 // ---- from one comparison
 
 // The view that shows the notes on types, those on the exports that lead to types which break a rule, and the counts of exports.
-#[derive(Clone, Copy)]
-struct OnTypes<'x, 'd, 'e> {
+#[derive(Drop)]
+struct OnTypes<'x, 'd> {
     old_dwarf: &'x Dwarf<'d>,
-    new_dwarf: &'x Dwarf<'e>,
+    new_dwarf: &'x Dwarf<'d>,
 }
 
 // The notes of two lists, one list after the other.
@@ -97,7 +97,7 @@ fn counts_on(alloc: Global, compared: &Compared) -> Result<Counts, NoMemory>
     counts_of(alloc, compared.pair.marks, compared.pair.bound)
 }
 
-impl<'x, 'd, 'e> View for OnTypes<'x, 'd, 'e> {
+impl<'x, 'd> View for OnTypes<'x, 'd> {
     type Shown = Beside;
 
     ghost shows = { λ v s beside. IsOnTypes v.old_dwarf.now v.new_dwarf.now s beside };
@@ -117,12 +117,12 @@ impl<'x, 'd, 'e> View for OnTypes<'x, 'd, 'e> {
 
 // The notes on types and the counts for two libraries that were read with their debug information, with a counter of steps. The
 // libraries are compared once.
-fn beside_types<'x, L: Ledger>(
+fn beside_types<'x, 'a, L: Ledger>(
     alloc: Global,
     blank: Blank,
-    old: &'x WithDebug<OldIx>,
-    new: &'x WithDebug<NewIx>,
-    marks: &Marks,
+    old: &'x WithDebug<'a, OldIx>,
+    new: &'x WithDebug<'a, NewIx>,
+    marks: &'x Marks,
 ) -> Result<Beside, NoMemory>
     requires name { blank.name ≡ L.name }
     requires parts { blank.parts ≡ L.parts }
@@ -153,11 +153,11 @@ fn nothing(alloc: Global) -> Beside
 
 // All notes on two libraries that were read with their debug information, by a rule file that was read.
 #[tactic(auto, using(crate::proofs::RuleLemmas::by_rules))]
-fn with_rules(
+fn with_rules<'x, 'a>(
     alloc: Global,
-    old: &WithDebug<OldIx>,
-    new: &WithDebug<NewIx>,
-    rules: &Rules,
+    old: &'x WithDebug<'a, OldIx>,
+    new: &'x WithDebug<'a, NewIx>,
+    rules: &'x Rules,
 ) -> Result<Beside, NoMemory>
     ensures notes { IfOk result (λ beside. AreByRules old.now.library new.now.library old.now.dwarf new.now.dwarf rules.now beside.notes) }
     ensures counts { IfOk result (λ beside. beside.counts
@@ -175,11 +175,11 @@ fn with_rules(
 
 // All notes and counts on two libraries that were read with their debug information, by the bytes of a rule file.
 #[tactic(auto, using(crate::proofs::CountLemmas::when_readable, crate::proofs::CountLemmas::when_faulty))]
-fn with_both(
+fn with_both<'x, 'a>(
     alloc: Global,
-    old: &WithDebug<OldIx>,
-    new: &WithDebug<NewIx>,
-    rules: &[u8],
+    old: &'x WithDebug<'a, OldIx>,
+    new: &'x WithDebug<'a, NewIx>,
+    rules: &'x [u8],
 ) -> Result<Beside, NoMemory>
     ensures notes { IfOk result (λ beside. AreWithBoth old.now.library new.now.library old.now.dwarf new.now.dwarf rules.now beside.notes) }
     ensures counts { IfOk result (λ beside. beside.counts
@@ -195,10 +195,10 @@ fn with_both(
 // All notes on an old library that was read with its debug information and a new one, from the bytes of the new one and of a rule
 // file.
 #[tactic(auto, using(crate::proofs::CountLemmas::when_readable, crate::proofs::CountLemmas::when_faulty))]
-fn with_old(
+fn with_old<'a>(
     alloc: Global,
-    old: &WithDebug<OldIx>,
-    new: &[u8],
+    old: &WithDebug<'a, OldIx>,
+    new: &'a [u8],
     rules: &[u8],
 ) -> Result<Beside, NoMemory>
     requires { length new.now ≤ input_limit }
@@ -214,7 +214,12 @@ fn with_old(
 
 // All notes on two libraries, from their bytes and those of a rule file. Each library is read once.
 #[tactic(auto, using(crate::proofs::CountLemmas::when_readable, crate::proofs::CountLemmas::when_faulty))]
-fn of_files(alloc: Global, old: &[u8], new: &[u8], rules: &[u8]) -> Result<Beside, NoMemory>
+fn of_files<'a>(
+    alloc: Global,
+    old: &'a [u8],
+    new: &'a [u8],
+    rules: &'a [u8],
+) -> Result<Beside, NoMemory>
     requires old_short { length old.now ≤ input_limit }
     requires new_short { length new.now ≤ input_limit }
     ensures notes { IfOk result (λ beside. AreOfFiles old.now new.now rules.now beside.notes) }
