@@ -1,11 +1,11 @@
 -- Members that stay where others are added.
-use Rattle.std.proofs.Common.{◌≡◌, ℕ, List, Some, Bool, true, false, true≢false, bytes_eq, refl, sym, ◌∙◌}
+use Rattle.std.proofs.Common.{◌≡◌, ℕ, List, Some, false, true≢false, bytes_eq, refl, sym, ◌∙◌}
 use Rattle.std.specs.Prelude.{codes}
 use Rattle.std.proofs.lemmas.Slice.Eq.{bytes_eq-Decides}
 use Rattle.commands.specs.Outcomes.{exit_number}
 use Rattle.commands.specs.declared.outcome.Outcome.{Outcome}
 use Rattle.serde_json.specs.Data.{Data, number, unsigned, string, object, Members, put}
-use Rattle.serde_json.specs.Find.{get, get_member}
+use Rattle.serde_json.specs.Find.{get_member}
 use Rattle.serde_json.proofs.Views.{get_member-put, get_member-put_other}
 use Rattle.document_head.specs.Heads.{HasMember, answer_word, fault_value, untyped_value, with_all, with_outcome, with_remarks}
 

@@ -171,7 +171,8 @@ fn put_outcome(
     ending: &Ending<'_>,
 ) -> Result<(), AllocError>
     ensures { let command = command_word (map (λ word. word.now) ending.now.words.now) in
-        OnOk result (members_view head.new.entries ≡ with_outcome command ending.now.outcome (members_view head.old.entries)) }
+        OnOk result (members_view head.new.entries
+        ≡ with_outcome command ending.now.outcome (members_view head.old.entries)) }
 {
     let command = command_of(ending.words);
     let answer = answer_word(ending.outcome);
