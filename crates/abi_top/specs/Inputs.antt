@@ -1,6 +1,5 @@
 -- Inputs that several commands want.
 use Rattle.std.specs.Prelude.{ℕ, List, Option}
-use Rattle.abi_base.specs.declared.limit.Limit.{Limit}
 use Rattle.commands.specs.Commands.{PlainSource, Wanted, named, named_or_empty}
 use Rattle.commands.specs.declared.input.Input.{Input}
 use Rattle.commands.specs.declared.input.Input.TheVariants.{Rules}
@@ -19,7 +18,3 @@ rules_at name = record { which = Rules; source = named_or_empty name; fault_in =
 -- a certificate of version 2
 abbrev pub certificate_at : Input → List ℕ → Wanted
 certificate_at which name = record { which = which; source = named name; fault_in = certificate_fault }
-
--- any limit: nothing is said of which limits the inputs of a command pass
-abbrev pub any_limit : List (List ℕ) → Limit → Type 0
-any_limit all limit = Unit {0}

@@ -28,7 +28,7 @@ command_of voices (check rules report old new) = record { inputs = check_inputs 
 command_of voices (verify rules old new certificate) = record { inputs = verify_inputs rules old new certificate; says = verify_says; passes = verify_passes }
 command_of voices (entries library) = record { inputs = entries_inputs library; says = entries_says; passes = entries_passes }
 command_of voices (exports library) = record { inputs = exports_inputs library; says = exports_says; passes = exports_passes }
-command_of voices (trial count) = record { inputs = trial_inputs count; says = trial_says count; passes = trial_passes }
+command_of voices (trial count) = record { inputs = trial_inputs count; says = trial_says count; passes = trial_passes count }
 command_of voices (migrate rules old new certificate) = record { inputs = migrate_inputs rules old new certificate; says = migrate_says; passes = migrate_passes }
 command_of voices (compose first middle last certificate1 certificate2) = record { inputs = compose_inputs first middle last certificate1 certificate2; says = compose_says; passes = compose_passes }
 command_of voices (layout library tag) = record { inputs = layout_inputs library; says = layout_says tag; passes = layout_passes tag }

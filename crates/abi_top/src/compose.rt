@@ -6,6 +6,7 @@ ghost use Rattle.abi_top.specs.Rows.Compose.{compose_inputs, compose_passes, com
 ghost use Rattle.commands.specs.Commands.{asks_of, places_of, plain_place};
 ghost use Rattle.commands.specs.Faults.{AreReadable, StopsAt};
 ghost use Rattle.library_check.specs.Compositions.{IsUncomposed, PlainFiles};
+ghost use Rattle.library_check.specs.Limits.{ComposePasses, OnUncomposed};
 
 use crate::text;
 use abi_base::NoMemory;
@@ -109,7 +110,7 @@ fn compose_certificates(alloc: Global, files: &ChainFiles) -> Result<Judgement, 
 // Why there is no verdict, by the input that cannot be read.
 const fn stop_of(uncomposed: Uncomposed) -> Stop
     ensures { (first middle last certificate1 certificate2 : List ℕ) (files : PlainFiles)
-        → IsUncomposed files uncomposed
+        → IsUncomposed files uncomposed → OnUncomposed uncomposed (ComposePasses files)
         → StopsAt (asks_of (compose_inputs first middle last certificate1 certificate2)) compose_passes
         (files.first ∷ files.middle ∷ files.last ∷ files.certificate1 ∷ files.certificate2 ∷ []) result }
 {

@@ -61,7 +61,7 @@ impl Command for Trial {
 
     ghost says = { λ c voices. trial_says c.count };
 
-    ghost passes = { λ c. trial_passes };
+    ghost passes = { λ c. trial_passes c.count };
 
     fn judge(
         self,

@@ -1,6 +1,7 @@
 // Whether a new library may replace an old one, given their bytes and those of a rule file.
 ghost use Rattle.std.specs.Prelude.{◌≡◌, ◌≤◌, ℕ, List, [], None, length, map, All, OnOk, IfOk, IfErr};
 ghost use Rattle.abi_base.specs.Limits.{input_limit};
+ghost use Rattle.abi_base.specs.declared.fault.NoMemory.TheVariants.{Allocation};
 ghost use Rattle.library_read.specs.Faults.{library_fault};
 ghost use Rattle.library_read.specs.Libraries.{library_of};
 ghost use Rattle.library_read.specs.Limits.{LibraryPasses};
@@ -177,15 +178,16 @@ fn read_rule_file(alloc: Global, bytes: &[u8]) -> Result<Rules, Unchecked>
     }
 }
 
-/// The contents of an empty rule file. It fails only if memory runs out.
+/// The contents of an empty rule file, which passes no limit. It fails only where an allocation does.
 pub(crate) fn no_rules(alloc: Global) -> Result<Rules, NoMemory>
-    ensures { IfOk result (λ rules. rules ≡ rules_of []) }
+    ensures rules { IfOk result (λ rules. rules ≡ rules_of []) }
+    ensures named { IfErr result (λ e. e ≡ Allocation) }
 {
     no_rules_are_readable();
     match read_rules(alloc, b"") {
         Ok(rules) => Ok(rules),
         Err(Refusal::Fault(_)) => unreachable!(),
-        Err(Refusal::NoMemory(cause)) => Err(cause),
+        Err(Refusal::NoMemory(_)) => Err(NoMemory::Allocation),
     }
 }
 

@@ -1,17 +1,21 @@
 // The certificate that two certificates for a chain of three libraries compose, given their bytes.
 ghost use Rattle.std.specs.Prelude.{◌≡◌, ◌≤◌, [], None, length, OnOk, IfOk, IfErr};
 ghost use Rattle.abi_base.specs.Limits.{input_limit};
+ghost use Rattle.abi_base.specs.Outcome.{OnLimit};
 ghost use Rattle.cert_check.specs.Accepted.{IsAccepted};
 ghost use Rattle.cert_compose.specs.Chains.{IsChain, joint};
 ghost use Rattle.cert_text.specs.Grammar.{IsSpelled};
 ghost use Rattle.library_read.specs.Faults.{library_fault};
 ghost use Rattle.library_read.specs.Libraries.{library_of};
+ghost use Rattle.library_read.specs.Limits.{LibraryPasses};
 ghost use Rattle.suppression_text.specs.Rules.{rules_of};
 ghost use Rattle.library_check.specs.Compositions.{AreAccepted, AreComposable, AreReadableLibraries, IsComposition, IsJoined, IsUncomposed, first_case, plain_files};
 ghost use Rattle.library_check.specs.Judgements.{ruled};
+ghost use Rattle.library_check.specs.Limits.{ChainPasses, ComposePasses, JoinPasses, LibrariesPass, OnUncomposed, SecondPasses, SettlementPasses, WritingPasses};
 ghost use Rattle.library_check.specs.Verifications.{IsSettled, case_for, certificate_fault};
 
 use crate::checking::{is_copied, no_rules};
+use crate::judging::certificate_text;
 use crate::verifying::{Verified, settle};
 use abi_base::{Fault, INPUT_LIMIT, Limit, NoMemory, Refusal};
 use abi_types::{Library, NewIx, OldIx};
@@ -20,7 +24,7 @@ use cert_check::laws::{
     an_accepted_certificate_is_a_proof, marks_of_nothing_are_alike, what_is_accepted_keeps_all,
 };
 use cert_compose::{Chain, ComposeRefusal};
-use cert_text::{Cert, read_cert, write_cert};
+use cert_text::{Cert, pairs_of, read_cert};
 use library_read::copy::copied;
 use library_read::read_library;
 use std::alloc::Global;
@@ -95,6 +99,7 @@ fn read_first<'a>(alloc: Global, files: &ChainFiles<'a>) -> Result<Library<'a, O
     ensures readable { OnOk result (library_fault files.now.first.now ≡ None) }
     ensures library { IfOk result (λ library. library ≡ library_of files.now.first.now) }
     ensures unread { IfErr result (IsUncomposed (plain_files files.now)) }
+    ensures past { IfErr result (λ u. OnUncomposed u (LibraryPasses files.now.first.now)) }
 {
     match read_library(alloc, files.first) {
         Ok(library) => Ok(library),
@@ -110,6 +115,7 @@ fn read_middle<'a>(alloc: Global, files: &ChainFiles<'a>) -> Result<Library<'a, 
     ensures readable { OnOk result (library_fault files.now.middle.now ≡ None) }
     ensures library { IfOk result (λ library. library ≡ library_of files.now.middle.now) }
     ensures unread { IfErr result (IsUncomposed (plain_files files.now)) }
+    ensures past { IfErr result (λ u. OnUncomposed u (LibraryPasses files.now.middle.now)) }
 {
     match read_library(alloc, files.middle) {
         Ok(library) => Ok(library),
@@ -126,6 +132,7 @@ fn read_last<'a>(alloc: Global, files: &ChainFiles<'a>) -> Result<Library<'a, Ne
     ensures readable { OnOk result (library_fault files.now.last.now ≡ None) }
     ensures library { IfOk result (λ library. library ≡ library_of files.now.last.now) }
     ensures unread { IfErr result (IsUncomposed (plain_files files.now)) }
+    ensures past { IfErr result (λ u. OnUncomposed u (LibraryPasses files.now.last.now)) }
 {
     match read_library(alloc, files.last) {
         Ok(library) => Ok(library),
@@ -143,10 +150,11 @@ fn read_middle_again<'a>(
     requires short { length bytes.now ≤ input_limit }
     requires readable { library_fault bytes.now ≡ None }
     requires library { library.now ≡ library_of bytes.now }
-    ensures { IfOk result (λ library. library ≡ library_of bytes.now) }
+    ensures library { IfOk result (λ library. library ≡ library_of bytes.now) }
+    ensures past { IfErr result (λ e. OnLimit e (LibraryPasses bytes.now)) }
 {
     if is_copied(library) {
-        return copied(alloc, library);
+        return Ok(copied(alloc, library)?);
     }
     match read_library(alloc, bytes) {
         Ok(library) => Ok(library),
@@ -156,6 +164,7 @@ fn read_middle_again<'a>(
 }
 
 // Reads the libraries, in order. The middle one is read once, and copied for its other side.
+#[tactic(auto, using(crate::proofs::LimitLemmas::first_passes, crate::proofs::LimitLemmas::middle_passes, crate::proofs::LimitLemmas::last_passes, crate::proofs::LimitLemmas::copy_passes))]
 fn read_libraries<'a>(alloc: Global, files: &ChainFiles<'a>) -> Result<Libraries<'a>, Uncomposed>
     requires first_short { length files.now.first.now ≤ input_limit }
     requires middle_short { length files.now.middle.now ≤ input_limit }
@@ -166,6 +175,7 @@ fn read_libraries<'a>(alloc: Global, files: &ChainFiles<'a>) -> Result<Libraries
     ensures middle_old { IfOk result (λ libraries. libraries.middle_old ≡ library_of files.now.middle.now) }
     ensures last { IfOk result (λ libraries. libraries.last ≡ library_of files.now.last.now) }
     ensures unread { IfErr result (IsUncomposed (plain_files files.now)) }
+    ensures past { IfErr result (λ u. OnUncomposed u (LibrariesPass files.now.first.now files.now.middle.now files.now.last.now)) }
 {
     let first = match read_first(alloc, files) {
         Ok(first) => first,
@@ -191,17 +201,18 @@ fn read_libraries<'a>(alloc: Global, files: &ChainFiles<'a>) -> Result<Libraries
     })
 }
 
-// Reads the first certificate, if the libraries are readable.
+// Reads the first certificate, if the libraries are readable. It passes no limit: memory runs out only where an allocation fails.
 fn read_one(alloc: Global, files: &ChainFiles) -> Result<Cert, Uncomposed>
     requires { AreReadableLibraries (plain_files files.now) }
     ensures readable { OnOk result (certificate_fault files.now.certificate1.now ≡ None) }
     ensures spelled { IfOk result (λ cert. IsSpelled files.now.certificate1.now cert) }
     ensures unread { IfErr result (IsUncomposed (plain_files files.now)) }
+    ensures named { IfErr result (λ u. OnUncomposed u (λ l. ⊥)) }
 {
     match read_cert(alloc, files.certificate1) {
         Ok(cert) => Ok(cert),
         Err(Refusal::Fault(fault)) => Err(Uncomposed::Certificate1(fault)),
-        Err(Refusal::NoMemory(cause)) => Err(Uncomposed::NoMemory(cause)),
+        Err(Refusal::NoMemory(_)) => Err(Uncomposed::NoMemory(NoMemory::Allocation)),
     }
 }
 
@@ -212,11 +223,12 @@ fn read_other(alloc: Global, files: &ChainFiles) -> Result<Cert, Uncomposed>
     ensures readable { OnOk result (certificate_fault files.now.certificate2.now ≡ None) }
     ensures spelled { IfOk result (λ cert. IsSpelled files.now.certificate2.now cert) }
     ensures unread { IfErr result (IsUncomposed (plain_files files.now)) }
+    ensures named { IfErr result (λ u. OnUncomposed u (λ l. ⊥)) }
 {
     match read_cert(alloc, files.certificate2) {
         Ok(cert) => Ok(cert),
         Err(Refusal::Fault(fault)) => Err(Uncomposed::Certificate2(fault)),
-        Err(Refusal::NoMemory(cause)) => Err(Uncomposed::NoMemory(cause)),
+        Err(Refusal::NoMemory(_)) => Err(Uncomposed::NoMemory(NoMemory::Allocation)),
     }
 }
 
@@ -227,6 +239,7 @@ fn read_certificates(alloc: Global, files: &ChainFiles) -> Result<Certificates, 
     ensures one { IfOk result (λ certificates. IsSpelled files.now.certificate1.now certificates.one) }
     ensures other { IfOk result (λ certificates. IsSpelled files.now.certificate2.now certificates.other) }
     ensures unread { IfErr result (IsUncomposed (plain_files files.now)) }
+    ensures named { IfErr result (λ u. OnUncomposed u (λ l. ⊥)) }
 {
     let one = match read_one(alloc, files) {
         Ok(one) => one,
@@ -241,14 +254,16 @@ fn read_certificates(alloc: Global, files: &ChainFiles) -> Result<Certificates, 
 
 // The text of a certificate, or `NoMemory` if it is longer than an input may be. A certificate with too many pair lines is not even
 // written.
+#[tactic(auto, using(crate::proofs::LimitLemmas::many_lines, crate::proofs::LimitLemmas::many_bytes))]
 fn written(alloc: Global, cert: &Cert) -> Result<Vec<u8>, NoMemory>
     ensures spelled { IfOk result (λ text. IsSpelled text.items cert.now) }
     ensures short { IfOk result (λ text. length text.items ≤ input_limit) }
+    ensures past { IfErr result (λ e. OnLimit e (WritingPasses cert.now)) }
 {
-    if cert.pairs.as_slice().len() > INPUT_LIMIT / PAIR_ROOM {
-        return Err(NoMemory::Past(Limit::PairLines));
+    if pairs_of(cert).len() > INPUT_LIMIT / PAIR_ROOM {
+        return Err(NoMemory::Past(Limit::ComposedLines));
     }
-    let text = write_cert(alloc, cert)?;
+    let text = certificate_text(alloc, cert)?;
     if text.len() > INPUT_LIMIT {
         return Err(NoMemory::Past(Limit::Certificate));
     }
@@ -256,13 +271,15 @@ fn written(alloc: Global, cert: &Cert) -> Result<Vec<u8>, NoMemory>
 }
 
 // What is said about a certificate for two libraries, with an empty rule file.
+#[tactic(auto, using(crate::proofs::LimitLemmas::settlement_by))]
 fn settle_unmarked(
     alloc: Global,
     old: &Library<OldIx>,
     new: &Library<NewIx>,
     cert: &Cert,
 ) -> Result<Verified, NoMemory>
-    ensures { IfOk result (IsSettled (case_for (ruled old.now new.now (rules_of [])) cert.now)) }
+    ensures settled { IfOk result (IsSettled (case_for (ruled old.now new.now (rules_of [])) cert.now)) }
+    ensures past { IfErr result (λ e. OnLimit e (SettlementPasses old.now new.now (rules_of []) cert.now)) }
 {
     let rules = no_rules(alloc)?;
     settle(alloc, old, new, &rules, cert)
@@ -285,6 +302,7 @@ fn make_a_chain(libraries: &Libraries, certificates: &Certificates)
 }
 
 // What is said about two accepted certificates.
+#[tactic(auto, using(crate::proofs::LimitLemmas::composition_joins, crate::proofs::LimitLemmas::refusal_joins, crate::proofs::LimitLemmas::writing_joins))]
 fn join_accepted(
     alloc: Global,
     libraries: &Libraries,
@@ -292,7 +310,8 @@ fn join_accepted(
 ) -> Result<Composed, NoMemory>
     requires copied { libraries.now.middle_old ≡ libraries.now.middle_new }
     requires accepted { AreAccepted (joint libraries.now.first libraries.now.middle_new libraries.now.last certificates.now.one certificates.now.other) }
-    ensures { IfOk result (IsJoined (joint libraries.now.first libraries.now.middle_new libraries.now.last certificates.now.one certificates.now.other)) }
+    ensures joined { IfOk result (IsJoined (joint libraries.now.first libraries.now.middle_new libraries.now.last certificates.now.one certificates.now.other)) }
+    ensures past { IfErr result (λ e. OnLimit e (JoinPasses (joint libraries.now.first libraries.now.middle_new libraries.now.last certificates.now.one certificates.now.other))) }
 {
     marks_of_nothing_are_alike();
     what_is_accepted_keeps_all();
@@ -312,6 +331,7 @@ fn join_accepted(
 }
 
 // What is said about two certificates, if the first is accepted.
+#[tactic(auto, using(crate::proofs::LimitLemmas::settlement_is_second, crate::proofs::LimitLemmas::join_is_second))]
 fn join_second(
     alloc: Global,
     libraries: &Libraries,
@@ -319,7 +339,8 @@ fn join_second(
 ) -> Result<Composed, NoMemory>
     requires copied { libraries.now.middle_old ≡ libraries.now.middle_new }
     requires accepted { IsAccepted (first_case (joint libraries.now.first libraries.now.middle_new libraries.now.last certificates.now.one certificates.now.other)) }
-    ensures { IfOk result (IsJoined (joint libraries.now.first libraries.now.middle_new libraries.now.last certificates.now.one certificates.now.other)) }
+    ensures joined { IfOk result (IsJoined (joint libraries.now.first libraries.now.middle_new libraries.now.last certificates.now.one certificates.now.other)) }
+    ensures past { IfErr result (λ e. OnLimit e (SecondPasses (joint libraries.now.first libraries.now.middle_new libraries.now.last certificates.now.one certificates.now.other))) }
 {
     match settle_unmarked(
         alloc,
@@ -327,19 +348,21 @@ fn join_second(
         &libraries.last,
         &certificates.other,
     )? {
-        Verified::Accepted => join_accepted(alloc, libraries, certificates),
+        Verified::Accepted => Ok(join_accepted(alloc, libraries, certificates)?),
         Verified::Refused(refused) => Ok(Composed::Second(refused)),
     }
 }
 
 // What is said about two certificates for libraries after they are read. A refusal of the first one comes first.
+#[tactic(auto, using(crate::proofs::LimitLemmas::settlement_is_first, crate::proofs::LimitLemmas::second_is_after))]
 fn join(
     alloc: Global,
     libraries: &Libraries,
     certificates: &Certificates,
 ) -> Result<Composed, NoMemory>
     requires { libraries.now.middle_old ≡ libraries.now.middle_new }
-    ensures { IfOk result (IsJoined (joint libraries.now.first libraries.now.middle_new libraries.now.last certificates.now.one certificates.now.other)) }
+    ensures joined { IfOk result (IsJoined (joint libraries.now.first libraries.now.middle_new libraries.now.last certificates.now.one certificates.now.other)) }
+    ensures past { IfErr result (λ e. OnLimit e (ChainPasses (joint libraries.now.first libraries.now.middle_new libraries.now.last certificates.now.one certificates.now.other))) }
 {
     match settle_unmarked(
         alloc,
@@ -347,7 +370,7 @@ fn join(
         &libraries.middle_new,
         &certificates.one,
     )? {
-        Verified::Accepted => join_second(alloc, libraries, certificates),
+        Verified::Accepted => Ok(join_second(alloc, libraries, certificates)?),
         Verified::Refused(refused) => Ok(Composed::First(refused)),
     }
 }
@@ -356,6 +379,7 @@ fn join(
 /// may replace the first, and one that the last may replace the middle one. Else it returns the first refusal: of the first
 /// certificate, of the second one, or for what is lost between them. There are no suppressions. A fault is that of the first input
 /// that has one.
+#[tactic(auto, using(crate::proofs::LimitLemmas::libraries_compose, crate::proofs::LimitLemmas::nothing_composes, crate::proofs::LimitLemmas::chain_composes))]
 pub fn compose(alloc: Global, files: &ChainFiles) -> Result<Composed, Uncomposed>
     requires first_short { length files.now.first.now ≤ input_limit }
     requires middle_short { length files.now.middle.now ≤ input_limit }
@@ -363,6 +387,7 @@ pub fn compose(alloc: Global, files: &ChainFiles) -> Result<Composed, Uncomposed
     ensures readable { OnOk result (AreComposable (plain_files files.now)) }
     ensures composed { IfOk result (IsComposition (plain_files files.now)) }
     ensures uncomposed { IfErr result (IsUncomposed (plain_files files.now)) }
+    ensures past { IfErr result (λ u. OnUncomposed u (ComposePasses (plain_files files.now))) }
 {
     let libraries = match read_libraries(alloc, files) {
         Ok(libraries) => libraries,

@@ -81,8 +81,8 @@ pub(crate) fn compared<L: Ledger>(
     compare(alloc, old, new, marks, &mut steps)
 }
 
-// The text of a certificate. It fails only where an allocation fails, as writing a certificate does.
-fn certificate_text(alloc: Global, cert: &Cert) -> Result<Vec<u8>, NoMemory>
+/// The text of a certificate. It fails only where an allocation fails, as writing a certificate does.
+pub(crate) fn certificate_text(alloc: Global, cert: &Cert) -> Result<Vec<u8>, NoMemory>
     ensures spelled { IfOk result (λ text. IsSpelled text.items cert.now) }
     ensures named { IfErr result (λ e. e ≡ Allocation) }
 {

@@ -2,17 +2,22 @@
 // their bytes and those of a rule file.
 ghost use Rattle.std.specs.Prelude.{◌≡◌, ◌≤◌, ℕ, List, None, length, OnOk, IfOk, IfErr};
 ghost use Rattle.abi_base.specs.Limits.{input_limit};
+ghost use Rattle.abi_base.specs.Outcome.{OnLimit};
+ghost use Rattle.abi_base.specs.declared.fault.NoMemory.TheVariants.{Allocation};
+ghost use Rattle.cert_text.specs.Certs as certs;
 ghost use Rattle.cert_text.specs.Grammar.{IsSpelled1};
 ghost use Rattle.library_check.specs.Checks.{AreReadable};
 ghost use Rattle.library_check.specs.Judgements.{ruled};
+ghost use Rattle.library_check.specs.Limits.{MigratePasses, OnUnverified, SettlementPasses};
 ghost use Rattle.library_check.specs.Migrations.{AreMigratable, IsMigrated, IsMigration, IsUnmigrated, old_certificate_fault};
 
 use crate::checking::read_inputs;
+use crate::judging::certificate_text;
 use crate::verifying::{Unverified, Verified, of_inputs, settle};
 use abi_base::{NoMemory, Refusal};
 use abi_types::{Library, NewIx, OldIx};
 use cert_check::Refused;
-use cert_text::{Cert1, read_cert_1, write_cert};
+use cert_text::{Cert, Cert1, read_cert_1};
 use std::alloc::Global;
 use suppression_text::Rules;
 
@@ -26,21 +31,35 @@ pub enum Migrated {
     Refused(Refused),
 }
 
-// Reads the certificate of version 1, if all other inputs are readable.
+// Reads the certificate of version 1, if all other inputs are readable. It passes no limit: memory runs out only where an allocation
+// fails.
 fn read_old_certificate(alloc: Global, bytes: &[u8]) -> Result<Cert1, Unverified>
     ensures readable { OnOk result (old_certificate_fault bytes.now ≡ None) }
     ensures spelled { IfOk result (λ cert. IsSpelled1 bytes.now cert) }
     ensures unread { IfErr result (λ u. (old new rules : List ℕ) → AreReadable old new rules
         → IsUnmigrated old new rules bytes.now u) }
+    ensures named { IfErr result (λ u. OnUnverified u (λ l. ⊥)) }
 {
     match read_cert_1(alloc, bytes) {
         Ok(cert) => Ok(cert),
         Err(Refusal::Fault(fault)) => Err(Unverified::Certificate(fault)),
-        Err(Refusal::NoMemory(cause)) => Err(Unverified::NoMemory(cause)),
+        Err(Refusal::NoMemory(_)) => Err(Unverified::NoMemory(NoMemory::Allocation)),
+    }
+}
+
+// The certificate of version 2 with the meaning of one of version 1. It fails only where an allocation fails, as copying lines does.
+fn second_version(alloc: Global, cert: &Cert1) -> Result<Cert, NoMemory>
+    ensures made { IfOk result (λ new. new ≡ certs.migrated cert.now) }
+    ensures named { IfErr result (λ e. e ≡ Allocation) }
+{
+    match cert_text::migrate(alloc, cert) {
+        Ok(new) => Ok(new),
+        Err(_) => Err(NoMemory::Allocation),
     }
 }
 
 // What is said about a certificate of version 1 for two libraries and a rule file after they are read.
+#[tactic(auto, using(crate::proofs::LimitLemmas::settlement_of))]
 fn settle_migrated(
     alloc: Global,
     old: &Library<OldIx>,
@@ -48,11 +67,12 @@ fn settle_migrated(
     rules: &Rules,
     cert: &Cert1,
 ) -> Result<Migrated, NoMemory>
-    ensures { IfOk result (IsMigration (ruled old.now new.now rules.now) cert.now) }
+    ensures settled { IfOk result (IsMigration (ruled old.now new.now rules.now) cert.now) }
+    ensures past { IfErr result (λ e. OnLimit e (SettlementPasses old.now new.now rules.now (certs.migrated cert.now))) }
 {
-    let migrated = cert_text::migrate(alloc, cert)?;
+    let migrated = second_version(alloc, cert)?;
     match settle(alloc, old, new, rules, &migrated)? {
-        Verified::Accepted => Ok(Migrated::Done(write_cert(alloc, &migrated)?)),
+        Verified::Accepted => Ok(Migrated::Done(certificate_text(alloc, &migrated)?)),
         Verified::Refused(refused) => Ok(Migrated::Refused(refused)),
     }
 }
@@ -60,6 +80,7 @@ fn settle_migrated(
 /// Migrates a certificate of version 1: returns the text of the certificate of version 2 with the same meaning, if that proves that
 /// a new library may replace an old one in all that a rule file does not suppress, given their bytes. A fault is that of the first
 /// input that has one, in the order old, new, rules, certificate.
+#[tactic(auto, using(crate::proofs::LimitLemmas::inputs_migrate, crate::proofs::LimitLemmas::nothing_migrates, crate::proofs::LimitLemmas::settlement_migrates))]
 pub fn migrate(
     alloc: Global,
     old: &[u8],
@@ -72,6 +93,7 @@ pub fn migrate(
     ensures readable { OnOk result (AreMigratable old.now new.now rules.now certificate.now) }
     ensures migrated { IfOk result (IsMigrated old.now new.now rules.now certificate.now) }
     ensures unmigrated { IfErr result (IsUnmigrated old.now new.now rules.now certificate.now) }
+    ensures past { IfErr result (λ u. OnUnverified u (MigratePasses old.now new.now rules.now certificate.now)) }
 {
     let inputs = match read_inputs(alloc, old, new, rules) {
         Ok(inputs) => inputs,

@@ -4,7 +4,7 @@ use Rattle.std.specs.Prelude.{◌≡◌, ◌⊎◌, ℕ, List, [], ◌∷◌, Op
 use Rattle.abi_base.specs.declared.limit.Limit.{Limit}
 use Rattle.abi_base.specs.declared.remark.Remark.{Remark}
 use Rattle.abi_top.specs.Calls.{Call, Reads}
-use Rattle.abi_top.specs.Inputs.{any_limit, certificate_at, library_at}
+use Rattle.abi_top.specs.Inputs.{certificate_at, library_at}
 use Rattle.abi_top.specs.Text.{refused_first_text, refused_second_text, refused_text}
 use Rattle.cert_check.specs.declared.refused.Refused.{Refused as Refusal}
 use Rattle.cli_args.specs.Commands.{compose}
@@ -14,6 +14,7 @@ use Rattle.commands.specs.declared.verdict.Verdict.{Verdict}
 use Rattle.commands.specs.declared.verdict.Verdict.TheVariants.{Yes, Refused}
 use Rattle.library_check.specs.Checks.{Agreed, Compatible, KeepsLeaves}
 use Rattle.library_check.specs.Compositions.{PlainFiles, IsComposedText, IsComposition}
+use Rattle.library_check.specs.Limits.{ComposePasses}
 use Rattle.library_check.specs.declared.composing.Composed.{Composed}
 use Rattle.library_check.specs.declared.composing.Composed.TheVariants as composed
 use Rattle.library_check.specs.declared.composing.Composed.TheVariants.{First, Second, Between}
@@ -43,7 +44,9 @@ pub record ComposeSays (files : PlainFiles) (v : Verdict) (text : List ℕ) : Ty
   pub as_text : IsComposedAs composed v text
 
 abbrev pub compose_passes : List (List ℕ) → Limit → Type 0
-compose_passes = any_limit
+compose_passes (first ∷ middle ∷ last ∷ certificate1 ∷ certificate2 ∷ []) limit =
+    ComposePasses (record { first = first; middle = middle; last = last; certificate1 = certificate1; certificate2 = certificate2 }) limit
+compose_passes all limit = ⊥
 
 abbrev pub compose_says : List (List ℕ) → Verdict → Option Remark → List ℕ → Type 0
 compose_says (first ∷ middle ∷ last ∷ certificate1 ∷ certificate2 ∷ []) v untyped text =

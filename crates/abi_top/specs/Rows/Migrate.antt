@@ -4,7 +4,7 @@ use Rattle.std.specs.Prelude.{◌≡◌, ℕ, List, [], ◌∷◌, Option, None}
 use Rattle.abi_base.specs.declared.limit.Limit.{Limit}
 use Rattle.abi_base.specs.declared.remark.Remark.{Remark}
 use Rattle.abi_top.specs.Calls.{Call, Reads}
-use Rattle.abi_top.specs.Inputs.{any_limit, library_at, rules_at}
+use Rattle.abi_top.specs.Inputs.{library_at, rules_at}
 use Rattle.abi_top.specs.Text.{refused_text}
 use Rattle.cert_check.specs.declared.refused.Refused.{Refused as Refusal}
 use Rattle.cli_args.specs.Commands.{migrate}
@@ -13,6 +13,7 @@ use Rattle.commands.specs.declared.input.Input.TheVariants.{Old, New, Certificat
 use Rattle.commands.specs.declared.verdict.Verdict.{Verdict}
 use Rattle.commands.specs.declared.verdict.Verdict.TheVariants.{Yes, No, Refused, Done}
 use Rattle.library_check.specs.Checks.{Compatible}
+use Rattle.library_check.specs.Limits.{MigratePasses}
 use Rattle.library_check.specs.Migrations.{IsMigratedText, IsRefusedMigration, old_certificate_fault}
 
 -- the certificate is of version 1
@@ -27,7 +28,8 @@ MigrateSays old new rules certificate Yes text = ⊥
 MigrateSays old new rules certificate No text = ⊥
 
 abbrev pub migrate_passes : List (List ℕ) → Limit → Type 0
-migrate_passes = any_limit
+migrate_passes (old ∷ new ∷ rules ∷ certificate ∷ []) limit = MigratePasses old new rules certificate limit
+migrate_passes all limit = ⊥
 
 abbrev pub migrate_says : List (List ℕ) → Verdict → Option Remark → List ℕ → Type 0
 migrate_says (old ∷ new ∷ rules ∷ certificate ∷ []) v untyped text = MigrateSays old new rules certificate v text × (untyped ≡ None)

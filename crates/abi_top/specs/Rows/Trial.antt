@@ -3,13 +3,14 @@ use Rattle.std.specs.Prelude.{◌≡◌, ℕ, List, [], ◌∷◌, Option, None}
 use Rattle.abi_base.specs.declared.limit.Limit.{Limit}
 use Rattle.abi_base.specs.declared.remark.Remark.{Remark}
 use Rattle.abi_top.specs.Calls.{Call}
-use Rattle.abi_top.specs.Inputs.{any_limit, library_at}
+use Rattle.abi_top.specs.Inputs.{library_at}
 use Rattle.cli_args.specs.Commands.{trial}
 use Rattle.cli_args.specs.ParsedArguments.{arguments_by, request}
 use Rattle.commands.specs.Commands.{Wanted, own}
 use Rattle.commands.specs.declared.input.Input.TheVariants.{Old, New}
 use Rattle.commands.specs.declared.verdict.Verdict.{Verdict}
 use Rattle.commands.specs.declared.verdict.Verdict.TheVariants.{Done}
+use Rattle.library_check.specs.Limits.{TrialPasses}
 use Rattle.library_check.specs.trial.Trials.{IsTrialText}
 use Rattle.trial_libraries.specs.Libraries.{library as made_library}
 use Rattle.trial_libraries.specs.declared.making.Side.TheVariants as side
@@ -24,8 +25,8 @@ pub record IsTried (count : ℕ) (v : Verdict) (untyped : Option Remark) (text :
   pub none : untyped ≡ None
   pub lines : IsTrialText count text
 
-abbrev pub trial_passes : List (List ℕ) → Limit → Type 0
-trial_passes = any_limit
+abbrev pub trial_passes : ℕ → List (List ℕ) → Limit → Type 0
+trial_passes count all limit = TrialPasses count limit
 
 abbrev pub trial_says : ℕ → List (List ℕ) → Verdict → Option Remark → List ℕ → Type 0
 trial_says count all v untyped text = IsTried count v untyped text

@@ -1,10 +1,13 @@
 // Two generated libraries, and what is said about them.
 ghost use Rattle.std.specs.Prelude.{◌≡◌, ◌≤◌, ◌∷◌, ℕ, List, [], length, map, All, IfOk, IfErr};
 ghost use Rattle.abi_base.specs.Limits.{input_limit};
+ghost use Rattle.abi_base.specs.Outcome.{OnLimit};
+ghost use Rattle.abi_base.specs.declared.fault.NoMemory.TheVariants.{Allocation};
 ghost use Rattle.library_read.specs.Libraries.{library_of};
 ghost use Rattle.suppression_text.specs.Rules.{rules_of};
 ghost use Rattle.library_check.specs.Checks.{IsUnchecked};
 ghost use Rattle.library_check.specs.Judgements.{IsJudged};
+ghost use Rattle.library_check.specs.Limits.{JudgementPasses, OnUnchecked, TrialPasses};
 ghost use Rattle.library_check.specs.trial.Trials.{IsSaid, IsTrialText, IsUntried, new_library, old_library, trial_voices};
 
 use crate::checking::no_rules;
@@ -21,17 +24,20 @@ fn alone(alloc: Global, listener: Box<dyn Listener>) -> Result<Vec<Box<dyn Liste
     requires { heard listener ≡ [] }
     ensures unheard { IfOk result (λ listeners. All (λ listener. heard listener ≡ []) listeners.items) }
     ensures voices { IfOk result (λ listeners. map voice listeners.items ≡ voice listener ∷ []) }
+    ensures named { IfErr result (λ e. e ≡ Allocation) }
 {
     Ok(vec![in alloc; listener]?)
 }
 
 // What `check` says about two libraries, with an empty rule file and a listener that makes a line of each break.
+#[tactic(auto, using(crate::proofs::LimitLemmas::judgement_by))]
 fn judge_plainly(
     alloc: Global,
     old: &Library<OldIx>,
     new: &Library<NewIx>,
 ) -> Result<Checked, NoMemory>
-    ensures { IfOk result (IsJudged trial_voices old.now new.now (rules_of [])) }
+    ensures judged { IfOk result (IsJudged trial_voices old.now new.now (rules_of [])) }
+    ensures past { IfErr result (λ e. OnLimit e (JudgementPasses old.now new.now (rules_of []))) }
 {
     let listeners = alone(alloc, Box::new(alloc, TextListener::new(alloc))?)?;
     let rules = no_rules(alloc)?;
@@ -39,6 +45,7 @@ fn judge_plainly(
 }
 
 // The lines of a trial of n functions, given its libraries.
+#[tactic(auto, using(crate::proofs::LimitLemmas::judgement_tries))]
 fn try_read(
     alloc: Global,
     n: u32,
@@ -47,7 +54,8 @@ fn try_read(
 ) -> Result<Vec<u8>, NoMemory>
     requires old { old.now ≡ library_of (old_library n) }
     requires new { new.now ≡ library_of (new_library n) }
-    ensures { IfOk result (λ lines. IsSaid n lines.items) }
+    ensures said { IfOk result (λ lines. IsSaid n lines.items) }
+    ensures past { IfErr result (λ e. OnLimit e (TrialPasses n)) }
 {
     let exports = old.exports().len();
     match judge_plainly(alloc, old, new)? {
@@ -60,6 +68,7 @@ fn try_read(
 /// and the new library, with an empty rule file, the number of exports of the old one, and the number of lines that `check` prints;
 /// the second has the SHA-256 of that text. On no, the text is that of one listener, which makes a line of each break. A fault of a
 /// library, of the old one first, stops the trial as it stops `check`.
+#[tactic(auto, using(crate::proofs::LimitLemmas::pair_tries))]
 pub fn try_libraries(alloc: Global, n: u32, old: &[u8], new: &[u8]) -> Result<Vec<u8>, Unchecked>
     requires old { old.now ≡ old_library n }
     requires new { new.now ≡ new_library n }
@@ -67,6 +76,7 @@ pub fn try_libraries(alloc: Global, n: u32, old: &[u8], new: &[u8]) -> Result<Ve
     requires new_short { length new.now ≤ input_limit }
     ensures trial { IfOk result (λ lines. IsTrialText n lines.items) }
     ensures untried { IfErr result (IsUntried n) }
+    ensures past { IfErr result (λ u. OnUnchecked u (TrialPasses n)) }
 {
     no_rules_are_readable();
     let pair = match read_pair(alloc, old, new) {
