@@ -3,26 +3,25 @@ is left to the general reader, which also says what is wrong with it."""
 
 from __future__ import annotations
 
-import io
-import tarfile
 from dataclasses import dataclass
 from pathlib import Path
 from typing import Iterator, Optional
 
 from abi_tools import deb_files
 from abi_tools.archives import Archive
+from abi_tools.deb_control import control_in
 from abi_tools.faults import Fault
 from abi_tools.found_libraries import contents_of
 from abi_tools.package_sides import Side
 from abi_tools.unpacking import Package, placed
 
-# The sizes that a small package has at most: packed, with all its files unpacked, and of its control archive.
+# The sizes that a small package has at most: packed, of the archive of its files, and of its control archive. Its files have no more bytes
+# than their archive: a sparse file is refused, and a hard link is a second name.
 _LARGEST_PACKED = 1 << 20
 _LARGEST = 16 << 20
 _LARGEST_CONTROL = 1 << 20
-_CONTROL = "control"
 # What the readers raise if a package is damaged.
-_DAMAGED = (Fault, tarfile.TarError, OSError, EOFError, ValueError, KeyError)
+_DAMAGED = (Fault, OSError, EOFError, ValueError, KeyError)
 
 
 @dataclass(frozen=True)
@@ -45,11 +44,11 @@ class SmallPackage:
             return None
         try:
             with file.open("rb") as stream:
-                control = _plain(deb_files.control_of(stream, file), _LARGEST_CONTROL)
-                plain = _plain(deb_files.data_of(stream, file), _LARGEST)
-            if plain is None or not _is_small(tarfile.open(fileobj=io.BytesIO(plain), mode="r:")):
+                packed_control, packed = deb_files.archives_of(stream, file)
+                control, plain = _plain(packed_control, _LARGEST_CONTROL), _plain(packed, _LARGEST)
+            if plain is None:
                 return None
-            text = None if control is None else _text(tarfile.open(fileobj=io.BytesIO(control), mode="r:"))
+            text = None if control is None else control_in(Archive(iter([control]), "tar", file))
         except _DAMAGED:
             return None
         return None if text is None else cls(file, text, plain)
@@ -67,12 +66,6 @@ def small_side(packages: list[SmallPackage], root: Path) -> Side:
     return Side.of(found, [contents_of(package) for package in found[:1]])
 
 
-def _is_small(archive: tarfile.TarFile) -> bool:
-    """Whether the files of an archive stay below the limit. Sparse files count with their full size, and an archive with hard links is
-    not small, since each name would take as much again."""
-    return sum(_LARGEST + 1 if member.islnk() else member.size for member in archive.getmembers()) <= _LARGEST
-
-
 def _plain(pieces: Iterator[bytes], most: int) -> Optional[bytes]:
     """The bytes of an archive; None if there are more than `most`."""
     parts, count = [], 0
@@ -82,10 +75,3 @@ def _plain(pieces: Iterator[bytes], most: int) -> Optional[bytes]:
             return None
         parts.append(piece)
     return b"".join(parts)
-
-
-def _text(archive: tarfile.TarFile) -> Optional[bytes]:
-    """The control file of a package."""
-    member = next((one for one in archive.getmembers() if one.name in (_CONTROL, f"./{_CONTROL}")), None)
-    stream = None if member is None else archive.extractfile(member)
-    return None if stream is None else stream.read()
