@@ -96,7 +96,8 @@ class Store:
     def json(self, name: str) -> Optional[Json]:
         """The JSON object in a file; None if there is no file, or no object in it."""
         try:
-            value = json.loads((self.folder / name).read_bytes())
+            with open(f"{self.folder}/{name}", "rb", buffering=0) as stream:
+                value = json.loads(stream.read().decode())
         except (OSError, ValueError):
             return None
         return value if isinstance(value, dict) else None
