@@ -3,6 +3,8 @@ is left to the general reader, which also says what is wrong with it."""
 
 from __future__ import annotations
 
+import io
+import tarfile
 from dataclasses import dataclass
 from pathlib import Path
 from typing import Iterator, Optional
@@ -15,13 +17,12 @@ from abi_tools.found_libraries import contents_of
 from abi_tools.package_sides import Side
 from abi_tools.unpacking import Package, placed
 
-# The sizes that a small package has at most: packed, of the archive of its files, and of its control archive. Its files have no more bytes
-# than their archive: a sparse file is refused, and a hard link is a second name.
+# The sizes that a small package has at most: packed, with all its files unpacked, and of its control archive.
 _LARGEST_PACKED = 1 << 20
 _LARGEST = 16 << 20
 _LARGEST_CONTROL = 1 << 20
 # What the readers raise if a package is damaged.
-_DAMAGED = (Fault, OSError, EOFError, ValueError, KeyError)
+_DAMAGED = (Fault, tarfile.TarError, OSError, EOFError, ValueError, KeyError)
 
 
 @dataclass(frozen=True)
@@ -46,7 +47,7 @@ class SmallPackage:
             with file.open("rb") as stream:
                 packed_control, packed = deb_files.archives_of(stream, file)
                 control, plain = _plain(packed_control, _LARGEST_CONTROL), _plain(packed, _LARGEST)
-            if plain is None:
+            if plain is None or not _is_small(tarfile.open(fileobj=io.BytesIO(plain), mode="r:")):
                 return None
             text = None if control is None else control_in(Archive(iter([control]), "tar", file))
         except _DAMAGED:
@@ -64,6 +65,12 @@ def small_side(packages: list[SmallPackage], root: Path) -> Side:
         folder.mkdir(mode=0o700)
         found.append(Package(one.file, placed(Archive(iter([one.plain]), "tar", one.file), folder, one.file)))
     return Side.of(found, [contents_of(package) for package in found[:1]])
+
+
+def _is_small(archive: tarfile.TarFile) -> bool:
+    """Whether the files of an archive stay below the limit. Sparse files count with their full size, and an archive with hard links is
+    not small, since each name would take as much again."""
+    return sum(_LARGEST + 1 if member.islnk() else member.size for member in archive.getmembers()) <= _LARGEST
 
 
 def _plain(pieces: Iterator[bytes], most: int) -> Optional[bytes]:
