@@ -2,6 +2,7 @@
 
 from __future__ import annotations
 
+import random
 import re
 from pathlib import Path
 from typing import Iterator, Sequence
@@ -13,7 +14,7 @@ from abi_tools.found_libraries import PackagedLibrary, Unreadable
 from abi_tools.library_names import LibraryNames
 from abi_tools.package_judging import file_names
 from abi_tools.package_trees import File, Link, Tree
-from abi_tools.pairing import Pair, pairs_of, with_unreadable
+from abi_tools.pairing import Pair, _Sides, pairs_of, with_unreadable
 from abi_tools.unpacking import Package
 
 _PAGE = ROOT / "docs" / "PACKAGES.md"
@@ -65,6 +66,23 @@ def test_each_row_of_the_page_is_what_is_compared(row: tuple[str, str, str]) -> 
     assert sorted(said(pair, old.libraries, new.libraries) for pair in found) == sorted(re.split(r", (?=\d)", row[2])), found
     names = [pair.name for pair in found]
     assert len(set(names)) == len(names) == len(set(file_names(found)))
+
+
+def test_no_step_is_missed_where_one_library_is_on_each_side(monkeypatch: pytest.MonkeyPatch) -> None:
+    """All libraries are paired as if each step ran, for sides of names that are drawn at random."""
+    draw = random.Random(7)
+    folders = ("usr/lib/", "lib/", "usr/lib/x86_64-linux-gnu/", "usr/lib/H/x86-64-v3/", "opt/x/", "usr/local/lib/")
+    names = [f"{folder}{name}" for folder in folders for name in (_SONAME, "libx.so.1.2", "libx.so.1.3")]
+    for _ in range(400):
+        sides = []
+        for _ in range(2):
+            picked = draw.sample(names, draw.randint(0, 2)) + [f"{draw.choice(folders)}{_SONAME}"]
+            sides.append(side(" ".join([f"`{name}`" for name in picked[:-1]] + [f"`{picked[-1]}` → `{picked[0].rpartition('/')[2]}`"])))
+        (old, _), (new, _) = sides
+        found = pairs_of(old, new)
+        with monkeypatch.context() as patched:
+            patched.setattr(_Sides, "is_done", lambda _: False)
+            assert pairs_of(old, new) == found
 
 
 def test_too_many_pairs_are_not_left_out() -> None:

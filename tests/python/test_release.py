@@ -21,6 +21,7 @@ from typing import Any, Callable, Iterator
 
 import pytest
 from abi_release.clusters import LocalChoice
+from abi_release.digests import digest_of_file
 from abi_release.judging import Part, Settings
 from abi_release.limited_program import Limits
 from abi_release.needs import version_and_depends
@@ -29,6 +30,7 @@ from abi_release.scheduling import Given, Run, _Lost, _Turn, done_in_turn
 from abi_release.small_packages import SmallPackage, small_side
 from abi_release.sources import Work
 from abi_release.stored_files import Store
+from abi_release.unpacked import Joined
 from abi_tools.faults import Fault
 from abi_tools.package_sides import Side
 from conftest import ROOT, TOOLS, Ended, build_id, done, run, split, system_place
@@ -388,6 +390,37 @@ def test_a_result_that_is_lost_with_its_worker_is_made_again(tmp_path: Path) -> 
     judging = Run(settings, store, LocalChoice(1, 100), tries=2, patience=1)
     turn = _Turn(judging, None, iter(()), deque(), PlainProgress(1, "packages", sys.stderr))
     assert turn._next_after([part], LostResult())[0].again == [part] and not judging.failures  # pylint: disable=protected-access
+
+
+@pytest.mark.parametrize("has_room", [True, False])
+def test_notes_of_begun_tasks_are_in_memory_or_on_the_disk(tmp_path: Path, has_room: bool) -> None:
+    memory = tmp_path / "memory"
+    store = Store(tmp_path / "out", memory)
+    os.close(store.open())
+    if has_room:
+        memory.mkdir()
+    assert store.begun("task") is None and store.why("task") == ""
+    for name in ("", "lib0.so.1", "lib"):
+        store.begin("task", name)
+        assert store.begun("task") == name and store.begun("other") is None
+    store.put_why("task", "too long")
+    places = memory if has_room else tmp_path / "out/started"
+    assert len(list(places.iterdir())) == 2 and len(list(tmp_path.glob("*/started/*"))) == (0 if has_room else 2)
+    assert store.why("task") == "too long" and store.why("task") == ""
+    store.end("task")
+    assert store.begun("task") is None and not list(places.iterdir())
+
+
+def test_a_file_for_abi_is_made_for_a_new_result_alone(tmp_path: Path, monkeypatch: pytest.MonkeyPatch) -> None:
+    """The digest of a small library is that of the file that it gets, and a large library has its file at once."""
+    path = deb(tmp_path, "lib0", {f"{LIBRARIES}/lib0.so.1": library(tmp_path, "lib0.so.1")})
+    side = Side.unpacked([path], tmp_path / "unpacked")
+    joined = Joined.of(side.libraries[0], side, tmp_path, "old")
+    assert not (tmp_path / "old").exists() and joined.reason == ""
+    assert digest_of_file(tmp_path / joined.put()) == joined.digest
+    monkeypatch.setattr("abi_release.unpacked._MOST_IN_MEMORY", 100)
+    joined = Joined.of(side.libraries[0], side, tmp_path, "new")
+    assert digest_of_file(tmp_path / "new") == joined.digest
 
 
 def test_a_run_that_is_killed_goes_on_when_it_is_started_again(tmp_path: Path) -> None:

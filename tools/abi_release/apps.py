@@ -54,7 +54,7 @@ class Ask(NamedTuple):
 
     def do(self, settings: Settings, _passed_over: tuple[str, ...] = ()) -> Outcome:
         """Does the task."""
-        store = Store(Path(settings.out))
+        store = settings.store
         return guarded(lambda: _asked(self, settings, store), settings, store, self.mark)
 
 

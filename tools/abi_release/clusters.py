@@ -134,11 +134,11 @@ class LocalChoice:
     def client(self) -> Iterator[Client]:
         """A context with a client of the cluster. Raises NotStarted if the cluster does not start."""
         with contextlib.ExitStack() as folders, dask.config.set(_LOCAL_SETTINGS):
-            disk, memory = _scratch(folders, Path(tempfile.gettempdir())), None
+            disk, memory = scratch(folders, Path(tempfile.gettempdir())), None
             parent = memory_parent()
             if parent is not None:
                 with contextlib.suppress(OSError):
-                    memory = _scratch(folders, parent).folder
+                    memory = scratch(folders, parent).folder
             parts = contextlib.ExitStack()
             try:
                 yield self._started(parts, Places(disk.folder, memory), disk.part("dask"))
@@ -172,7 +172,7 @@ class LocalChoice:
         return client
 
 
-def _scratch(folders: contextlib.ExitStack, parent: Path) -> Scratch:
+def scratch(folders: contextlib.ExitStack, parent: Path) -> Scratch:
     """Makes a folder for work in progress, which `folders` removes, and removes those of runs that were killed."""
     sweep(parent)
     return folders.enter_context(contextlib.closing(Scratch.new(parent)))

@@ -17,7 +17,7 @@ from abi_tools.faults import Fault
 from abi_tools.shown import line_shown
 from abi_tools.verdicts import Verdict
 from abi_release.apps import has_command
-from abi_release.clusters import Choice, Keys, LocalChoice, OtherChoice, default_disk, default_megabytes, processors
+from abi_release.clusters import Choice, Keys, LocalChoice, OtherChoice, default_disk, default_megabytes, processors, scratch
 from abi_release.digests import OF_NOTHING, digest_of_file, program_digest
 from abi_release.judging import Part, Settings
 from abi_release.limited_program import CLOCK, Limits, check_time, limit_of
@@ -29,6 +29,7 @@ from abi_release.sources import Release, Work, works
 from abi_release.stored_files import Json, Store
 from abi_release.tables import Table, moved, write_json, write_text
 from abi_release.texts import whole_output
+from abi_release.workers import memory_parent
 
 _DESCRIPTION = """\
 Says of each library of a release whether the one in the next release may replace it. OLD and NEW are folders of .deb or .rpm files,
@@ -63,15 +64,18 @@ def _main(arguments: Sequence[str]) -> int:
     releases = Release.of(given.old), Release.of(given.new)
     if given.rules is not None and not given.rules.is_file():
         raise Fault(f"there is no rule file {given.rules}")
-    store = Store(given.out.resolve())
-    lock = store.open()
+    parts = contextlib.ExitStack()
     try:
+        begun = None if given.scheduler is not None else _notes(parts)
+        store = Store(given.out.resolve(), begun)
+        parts.callback(os.close, store.open())
         limits = Limits(given.memory or default_megabytes(given.workers), given.seconds, given.clock or CLOCK * given.seconds,
                         given.disk or default_disk())
         settings = Settings(os.urandom(16).hex(), str(given.old.resolve()), str(given.new.resolve()), str(store.folder),
                             None if given.rules is None else str(given.rules.resolve()), program_digest(abi.path),
                             given.require_types, limits, reports=None if given.reports is None else Reports.into(given.reports),
-                            rules_digest=OF_NOTHING if given.rules is None else digest_of_file(given.rules), is_strict=given.strict)
+                            rules_digest=OF_NOTHING if given.rules is None else digest_of_file(given.rules), is_strict=given.strict,
+                            begun=None if begun is None else str(begun))
         os.environ["ABI"] = abi.path
         if settings.reports is not None:
             os.environ["ABI_JSON"] = json_program()
@@ -83,7 +87,18 @@ def _main(arguments: Sequence[str]) -> int:
                 print(f"abi-release: {count} {side} files of {kind} are passed over", file=sys.stderr)
         return _judge(run, abi, releases, _head(given, settings))
     finally:
-        os.close(lock)
+        parts.close()
+
+
+def _notes(parts: contextlib.ExitStack) -> Optional[Path]:
+    """A folder in memory for notes of tasks that have begun, which `parts` removes; None if there is no room."""
+    parent = memory_parent()
+    if parent is None:
+        return None
+    try:
+        return scratch(parts, parent).part("begun")
+    except OSError:
+        return None
 
 
 def _parser() -> Arguments:

@@ -45,7 +45,7 @@ class Explain(NamedTuple):
 
     def do(self, settings: Settings, _passed_over: tuple[str, ...] = ()) -> Outcome:
         """Does the task."""
-        store = Store(Path(settings.out))
+        store = settings.store
         return guarded(lambda: _explained(self, settings, store), settings, store, self.mark)
 
 
@@ -67,7 +67,7 @@ def _explained(task: Explain, settings: Settings, store: Store) -> Outcome:
         return Outcome()
     packages = unpacked(settings.to_unpack(task.work, task.identity))
     pair = packages.pairs[task.one]
-    old, new, _ = packages.joined(pair)
+    old, new = (one.put() for one in packages.joined(pair))
     rules = rules_of(settings, pair, packages).file
     _check_same(result, [packages.folder / file for file in (old, new)])
     report = _LimitedReport(packages.folder, settings.limits)

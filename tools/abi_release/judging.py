@@ -29,7 +29,7 @@ from abi_release.needs import imports, version_and_depends
 from abi_release.reports import Reports
 from abi_release.sources import Work
 from abi_release.stored_files import Json, Store, opened_name, record_name, result_name
-from abi_release.unpacked import ToUnpack, Trouble, Unpacked, let_go, unpacked
+from abi_release.unpacked import Joined, ToUnpack, Trouble, Unpacked, let_go, unpacked
 
 GONE = "gone"
 NEW = "new"
@@ -52,7 +52,8 @@ OF_RUN = "run"
 class Settings:
     """What is the same for all packages of a run: a mark that no other run has, both folders and that of results, the rule file, the
     digest of the program, the share of exports that must have types, the limits of each process, the digest of the tools, where the
-    pages of `abi-report` go, if they are wanted, the digest of the rule file, and whether notes on what can break callers count."""
+    pages of `abi-report` go, if they are wanted, the digest of the rule file, whether notes on what can break callers count, and the
+    folder in memory for notes of tasks that have begun, if all workers are on this machine."""
 
     run: str
     old: str
@@ -66,6 +67,12 @@ class Settings:
     reports: Optional[Reports] = None
     rules_digest: str = OF_NOTHING
     is_strict: bool = False
+    begun: Optional[str] = None
+
+    @property
+    def store(self) -> Store:
+        """The folder of results."""
+        return Store(Path(self.out), None if self.begun is None else Path(self.begun))
 
     def places(self, work: Work) -> tuple[tuple[Path, ...], tuple[Path, ...]]:
         """The files of both sides."""
@@ -100,7 +107,7 @@ class Part(NamedTuple):
 
     def do(self, settings: Settings, passed_over: tuple[str, ...] = ()) -> "Outcome":
         """Does the task. It skips the libraries `passed_over`, which made a worker die. Whatever a package holds, there is an outcome."""
-        task = _Task(self, settings, passed_over, Store(Path(settings.out)))
+        task = _Task(self, settings, passed_over, settings.store)
         outcome = guarded(task.outcome, settings, task.store, self.mark)
         if outcome.reason or outcome.troubles:
             # Whoever tries again unpacks again.
@@ -288,26 +295,30 @@ class _Task:
         line: Json = {"library": pair.name, "soname": pair.soname}
         line |= {key: value for key, value in (("rule_file", rules.said), ("doubt", pair.doubt)) if value}
         try:
-            old, new, unjoined = packages.joined(pair)
+            libraries = packages.joined(pair)
             packages.check()
-            place, result = self._result(packages, (old, new), rules.file)
+            place, result = self._result(packages, libraries, rules.file)
         finally:
-            for file in ("old", "new"):
-                (packages.folder / file).unlink(missing_ok=True)
+            packages.drop_joined()
+        unjoined = [one.reason for one in libraries]
         if any(unjoined):
             line["unjoined"] = unjoined
         return line_of({**line, "result": place}, result)
 
-    def _result(self, packages: Unpacked, files: tuple[Path, Path], rule_file: Optional[Path]) -> tuple[str, Json]:
-        """The name of the result for two files, and the result."""
-        inputs = _Inputs([packages.folder / file for file in files] + ([] if rule_file is None else [rule_file]))
-        old, new, rules = (*inputs.digests, OF_NOTHING)[:3]
+    def _result(self, packages: Unpacked, libraries: tuple[Joined, Joined], rule_file: Optional[Path]) -> tuple[str, Json]:
+        """The name of the result for two libraries, and the result."""
+        old, new = (one.digest for one in libraries)
+        rules = OF_NOTHING if rule_file is None else digest_of_file(rule_file)
         _check_rules(self.settings, rules)
         ground = {"digests": {"old": old, "new": new, "rules": rules}, "program": self.settings.program, "tools": self.settings.tools,
                   "least_share": self.settings.least_share, "strict": self.settings.is_strict}
         place = result_name(digest_of_json(ground))
         result = self.store.result(place)
         if result is None or any(result.get(key) != value for key, value in ground.items()):
+            files = libraries[0].put(), libraries[1].put()
+            inputs = _Inputs([packages.folder / file for file in files] + ([] if rule_file is None else [rule_file]))
+            if (*inputs.digests, OF_NOTHING)[:3] != (old, new, rules):
+                raise Trouble("the libraries changed before abi read them")
             abi = LimitedAbi(packages.folder, self.settings.limits)
             judgement = settled(judge(abi, *files, rule_file, self.settings.least_share, self.settings.is_strict))
             if abi.trouble or not _is_lasting(judgement):

@@ -38,18 +38,20 @@ def environment(loader: FileSystemLoader) -> Environment:
 
 def _final(value: object) -> object:
     """What a template prints of a value: a text as it is shown, unless it is HTML already."""
-    return shown(value) if isinstance(value, str) and not hasattr(value, "__html__") else value
+    # HTML has a class of its own below `str`.
+    return shown(value) if type(value) is str else value
 
 
 def write_page(table: Table, head: Json, stream: TextIO) -> None:
     """Writes the page piece by piece. The lines are read once: those of each answer wait in a file of their own."""
     templates = environment(FileSystemLoader(Path(__file__).resolve().parent))
-    line_template = templates.get_template("line.html.j2")
+    # A macro, since a template makes a new context for each line.
+    row = getattr(templates.get_template("line.html.j2").module, "row")
     with contextlib.ExitStack() as files:
         groups = {answer: _Group(answer, title, files.enter_context(tempfile.TemporaryFile("w+", encoding="utf-8")))
                   for answer, title in _GROUPS.items()}
         for line in table.lines():
-            groups[line["answer"]].put(line_template.render(line=line))
+            groups[line["answer"]].put(row(line))
         pieces = templates.get_template("page.html.j2").stream(
             head=head, groups=[group for group in groups.values() if group.count], summary=table.summary(), height=_LINE_HEIGHT)
         pieces.enable_buffering(_PIECES)

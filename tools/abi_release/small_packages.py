@@ -11,6 +11,7 @@ from typing import Iterator, Optional
 
 from abi_tools import deb_files
 from abi_tools.archives import Archive
+from abi_tools.deb_control import control_in
 from abi_tools.faults import Fault
 from abi_tools.found_libraries import contents_of
 from abi_tools.package_sides import Side
@@ -20,7 +21,6 @@ from abi_tools.unpacking import Package, placed
 _LARGEST_PACKED = 1 << 20
 _LARGEST = 16 << 20
 _LARGEST_CONTROL = 1 << 20
-_CONTROL = "control"
 # What the readers raise if a package is damaged.
 _DAMAGED = (Fault, tarfile.TarError, OSError, EOFError, ValueError, KeyError)
 
@@ -45,11 +45,11 @@ class SmallPackage:
             return None
         try:
             with file.open("rb") as stream:
-                control = _plain(deb_files.control_of(stream, file), _LARGEST_CONTROL)
-                plain = _plain(deb_files.data_of(stream, file), _LARGEST)
+                packed_control, packed = deb_files.archives_of(stream, file)
+                control, plain = _plain(packed_control, _LARGEST_CONTROL), _plain(packed, _LARGEST)
             if plain is None or not _is_small(tarfile.open(fileobj=io.BytesIO(plain), mode="r:")):
                 return None
-            text = None if control is None else _text(tarfile.open(fileobj=io.BytesIO(control), mode="r:"))
+            text = None if control is None else control_in(Archive(iter([control]), "tar", file))
         except _DAMAGED:
             return None
         return None if text is None else cls(file, text, plain)
@@ -82,10 +82,3 @@ def _plain(pieces: Iterator[bytes], most: int) -> Optional[bytes]:
             return None
         parts.append(piece)
     return b"".join(parts)
-
-
-def _text(archive: tarfile.TarFile) -> Optional[bytes]:
-    """The control file of a package."""
-    member = next((one for one in archive.getmembers() if one.name in (_CONTROL, f"./{_CONTROL}")), None)
-    stream = None if member is None else archive.extractfile(member)
-    return None if stream is None else stream.read()

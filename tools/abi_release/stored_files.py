@@ -35,8 +35,11 @@ class Store:
     result, and counts as missing.
     """
 
-    def __init__(self, folder: Path) -> None:
+    def __init__(self, folder: Path, begun: Optional[Path] = None) -> None:
+        """The folder of a run. Notes of begun tasks go to the folder in memory `begun`, if there is one and it has room, or else to
+        `started`: on a disk it takes longer to make and to remove a note for each task than to find its result."""
         self.folder = folder
+        self._notes = [*([] if begun is None else [begun]), folder / "started"]
         self._unfinished = folder / "unfinished"
 
     def open(self) -> int:
@@ -93,7 +96,8 @@ class Store:
     def json(self, name: str) -> Optional[Json]:
         """The JSON object in a file; None if there is no file, or no object in it."""
         try:
-            value = json.loads((self.folder / name).read_bytes())
+            with open(f"{self.folder}/{name}", "rb", buffering=0) as stream:
+                value = json.loads(stream.read().decode())
         except (OSError, ValueError):
             return None
         return value if isinstance(value, dict) else None
@@ -123,45 +127,65 @@ class Store:
 
     def begin(self, task: str, library: str) -> None:
         """Notes that a task has begun, and which library it is judging, in case the worker dies."""
-        file = os.open(self._started(task), os.O_WRONLY | os.O_CREAT | os.O_TRUNC | os.O_CLOEXEC, _PERMISSIONS)
-        try:
-            if library:
-                os.write(file, os.fsencode(library))
-        finally:
-            os.close(file)
+        self._put_note(_note_name(task), os.fsencode(library))
 
     def begun(self, task: str) -> Optional[str]:
         """The library that a task was judging: empty if it had not come to one, and None if the task had not begun."""
-        try:
-            return os.fsdecode(Path(self._started(task)).read_bytes())
-        except OSError:
-            return None
+        found = self._noted(_note_name(task))
+        return None if found is None else os.fsdecode(found)
 
     def end(self, task: str) -> None:
         """Notes that a task is done."""
-        with contextlib.suppress(FileNotFoundError):
-            os.unlink(self._started(task))
+        self._drop_note(_note_name(task))
 
     def put_why(self, task: str, reason: str) -> None:
         """Notes why a worker ends itself over a task."""
-        Path(self._started(task) + _WHY).write_text(reason, "utf-8")
+        self._put_note(_note_name(task) + _WHY, reason.encode("utf-8", "surrogateescape"))
 
     def why(self, task: str) -> str:
         """Why a worker ended itself over a task, which then is forgotten; empty if it did not."""
-        place = Path(self._started(task) + _WHY)
-        try:
-            reason = place.read_text("utf-8")
-            place.unlink()
-        except OSError:
-            return ""
-        return reason
+        reason = self._noted(_note_name(task) + _WHY)
+        self._drop_note(_note_name(task) + _WHY)
+        return "" if reason is None else reason.decode("utf-8", "surrogateescape")
 
-    def _started(self, task: str) -> str:
-        return f"{self.folder}/started/{hashlib.sha256(os.fsencode(task)).hexdigest()}"
+    def _put_note(self, name: str, text: bytes) -> None:
+        """Writes a note to the first folder that takes it. Raises OSError if none does."""
+        *others, last = (f"{folder}/{name}" for folder in self._notes)
+        for place in others:
+            with contextlib.suppress(OSError):
+                return _write_over(place, text)
+        return _write_over(last, text)
+
+    def _noted(self, name: str) -> Optional[bytes]:
+        """The text of a note; None if there is none. A note that was written in two folders says more in the second one."""
+        found: Optional[bytes] = None
+        for folder in self._notes:
+            with contextlib.suppress(OSError):
+                found = (folder / name).read_bytes() or found or b""
+        return found
+
+    def _drop_note(self, name: str) -> None:
+        for folder in self._notes:
+            with contextlib.suppress(FileNotFoundError):
+                os.unlink(f"{folder}/{name}")
 
     def drop(self, name: str) -> None:
         """Removes a file."""
         (self.folder / name).unlink(missing_ok=True)
+
+
+def _note_name(task: str) -> str:
+    return hashlib.sha256(os.fsencode(task)).hexdigest()
+
+
+def _write_over(place: str, text: bytes) -> None:
+    """Writes a file in place, which may be there."""
+    file = os.open(place, os.O_WRONLY | os.O_CREAT | os.O_TRUNC | os.O_CLOEXEC, _PERMISSIONS)
+    try:
+        if text:
+            os.write(file, text)
+    finally:
+        os.close(file)
 
 
 def _rename(temporary: str, place: str) -> None:

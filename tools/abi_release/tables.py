@@ -149,11 +149,13 @@ class Table:
 
     def explains(self) -> list[Explain]:
         """The tasks that make the missing pages: one for each result with a no."""
+        if self.reports is None:
+            return []
         works = {work.name: work for work in (*self.works, *self.moves)}
         found: dict[str, Explain] = {}
         for record, lines in self._records():
             for line in lines:
-                if self.reports is not None and line["answer"] == Verdict.NO.words() and not self._page(line):
+                if line["answer"] == Verdict.NO.words() and not self._page(line):
                     task = Explain(works[record["name"]], line["library"], line["result"], tuple(record["identity"]))
                     found.setdefault(task.result, task)
         return list(found.values())

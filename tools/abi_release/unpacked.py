@@ -4,11 +4,12 @@ that are not small are unpacked once on each host (`package_cache`)."""
 from __future__ import annotations
 
 import contextlib
+import hashlib
 import itertools
 import os
 import tempfile
 import threading
-from dataclasses import replace
+from dataclasses import dataclass, replace
 from pathlib import Path
 from typing import NamedTuple, Optional, Sequence
 
@@ -30,11 +31,44 @@ _SIDES = ("old", "new")
 _PACKAGES = "packages"
 # Why a library was judged as it was shipped: it has no debug file.
 NO_DEBUG_FILE = "no debug file"
+# How many bytes a joined library has at most that stays in memory until it is needed in a file.
+_MOST_IN_MEMORY = 16 << 20
 _CHANGED = "the packages changed, or what was unpacked went away, while they were read"
 
 
 class Trouble(Exception):
     """Something of this machine and this moment went wrong, so nothing is known of the libraries."""
+
+
+@dataclass
+class Joined:
+    """A library, joined with its debug information, or as it was shipped if they cannot be joined; `reason` says why (empty if they were
+    joined). It gets a file, `name` in `folder`, at once if it is large, and otherwise by `put`: if its digest leads to an earlier result,
+    nobody reads the file."""
+
+    folder: Path
+    name: Path
+    digest: str
+    reason: str
+    _contents: Optional[bytes]
+
+    @classmethod
+    def of(cls, library: Optional[PackagedLibrary], side: Side, folder: Path, name: str) -> "Joined":
+        """Joins a library of a side."""
+        assert library is not None
+        contents, fault = joined_or_shipped(library, side)
+        reason = "" if fault is None else NO_DEBUG_FILE if isinstance(fault, NoDebugFile) else str(fault)
+        joined = cls(folder, Path(name), hashlib.sha256(contents).hexdigest(), reason, contents)
+        if len(contents) > _MOST_IN_MEMORY:
+            joined.put()
+        return joined
+
+    def put(self) -> Path:
+        """Writes the file, unless it is there, and returns its name."""
+        if self._contents is not None:
+            (self.folder / self.name).write_bytes(self._contents)
+            self._contents = None
+        return self.name
 
 
 class ToUnpack(NamedTuple):
@@ -125,18 +159,22 @@ class Unpacked:
             reason = reason.replace(f"{folder}/", "")
         return reason
 
-    def joined(self, pair: Pair) -> tuple[Path, Path, list[str]]:
-        """Writes both libraries, joined with their debug information, to the folder. Returns their names in it, and for each library why
-        it could not be joined (empty if it was)."""
-        reasons = [_put_joined(library, side, self.folder / name)
-                   for library, side, name in zip((pair.old, pair.new), self.sides, _SIDES)]
-        return Path(_SIDES[0]), Path(_SIDES[1]), reasons
+    def joined(self, pair: Pair) -> tuple[Joined, Joined]:
+        """Both libraries, joined with their debug information. Their files go to the folder."""
+        old, new = (Joined.of(library, side, self.folder, name)
+                    for library, side, name in zip((pair.old, pair.new), self.sides, _SIDES))
+        return old, new
+
+    def drop_joined(self) -> None:
+        """Removes the files of joined libraries, if there are any."""
+        for name in _SIDES:
+            (self.folder / name).unlink(missing_ok=True)
 
     def kept(self, pair: Pair) -> tuple[Path, Path]:
         """The same files, which stay in the folder under names of their own: sentences of `abi` name them, so the names must not depend
         on what was asked before."""
         if pair.name not in self._kept:
-            old, new, _ = self.joined(pair)
+            old, new = (one.put() for one in self.joined(pair))
             number = list(self.pairs).index(pair.name)
             kept = Path(f"{old}-{number}"), Path(f"{new}-{number}")
             for name, place in zip((old, new), kept):
@@ -206,16 +244,6 @@ def _by_name(found: Sequence[Pair]) -> dict[str, Pair]:
         name = next(name for name in names if name not in by_name)
         by_name[name] = replace(pair, name=name)
     return by_name
-
-
-def _put_joined(library: Optional[PackagedLibrary], side: Side, output: Path) -> str:
-    """Writes a library, joined with its debug information, or as it was shipped if they cannot be joined; returns why."""
-    assert library is not None
-    contents, fault = joined_or_shipped(library, side)
-    output.write_bytes(contents)
-    if isinstance(fault, NoDebugFile):
-        return NO_DEBUG_FILE
-    return "" if fault is None else str(fault)
 
 
 def _close(packages: Unpacked) -> None:

@@ -77,10 +77,11 @@ def control_text(file: Path) -> Optional[bytes]:
         if stream.read(len(deb_files.MAGIC)) != deb_files.MAGIC:
             raise Fault(f"{file} is no .deb")
         stream.seek(0)
-        return _control(Archive(deb_files.control_of(stream, file), "tar", file))
+        return control_in(Archive(deb_files.control_of(stream, file), "tar", file))
 
 
-def _control(archive: Archive) -> Optional[bytes]:
+def control_in(archive: Archive) -> Optional[bytes]:
+    """The control file in the archive of control files; None if there is none. Raises a fault if the archive is damaged."""
     for member in _files(archive):
         if member.removeprefix("./") == "control":
             return archive.read(_LARGEST)

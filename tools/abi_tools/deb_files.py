@@ -42,8 +42,18 @@ def control_of(stream: BinaryIO, file: object) -> Iterator[bytes]:
     return _archive(stream, file, _CONTROL)
 
 
+def archives_of(stream: BinaryIO, file: object) -> tuple[Iterator[bytes], Iterator[bytes]]:
+    """The archive of the control files and that of the files, which are to be read one after the other."""
+    chosen = _chosen(stream, file)
+    return _inflated(stream, chosen, file, _CONTROL), _inflated(stream, chosen, file, _DATA)
+
+
 def _archive(stream: BinaryIO, file: object, kind: str) -> Iterator[bytes]:
-    member = _chosen(stream, file)[kind]
+    return _inflated(stream, _chosen(stream, file), file, kind)
+
+
+def _inflated(stream: BinaryIO, chosen: dict[str, _Member], file: object, kind: str) -> Iterator[bytes]:
+    member = chosen[kind]
     return inflated(_pieces(stream, member, file), member.name.removeprefix(kind), file)
 
 

@@ -7,7 +7,7 @@ import os
 import struct
 import weakref
 from dataclasses import dataclass
-from functools import cached_property
+from functools import cached_property, lru_cache
 from pathlib import Path
 from typing import Iterator, NamedTuple, Optional
 
@@ -80,6 +80,11 @@ _HEADER = struct.Struct("<16xHHIQQQIHHHHHH")
 SECTION_LAYOUT = struct.Struct("<IIQQQQIIQQ")
 
 
+# How many tables of sections are kept, and how many bytes such a table has at most: a library is read several times in a row.
+_KEPT_TABLES = 8
+_LARGEST_KEPT_TABLE = 1 << 16
+
+
 class Section(NamedTuple):
     """A section: its number in the file, and the fields of its header (gABI, "Section Header"), with the name itself in place of the
     name's offset. It is a tuple, since files have many of them and a data class takes four times as long to make."""
@@ -116,6 +121,30 @@ class Section(NamedTuple):
         return SECTION_LAYOUT.pack(name, *self[2:])
 
 
+class _Table(NamedTuple):
+    """The sections of a file, and where the last bytes of one of them end."""
+
+    sections: tuple[Section, ...]
+    end: int
+
+
+def _table(headers: bytes, size: int, texts: bytes) -> _Table:
+    """The table of sections by their headers, each of `size` bytes. Their names are in `texts`."""
+    sections = []
+    for number, at in enumerate(range(0, len(headers), size)):
+        name, *fields = SECTION_LAYOUT.unpack_from(headers, at)
+        end = texts.find(b"\0", name)
+        text = texts[name:end if end >= 0 else None]
+        sections.append(Section(number, text.decode("utf-8", "surrogateescape"), *fields))
+    return _Table(tuple(sections), max((one.offset + one.size for one in sections if one.holds_bytes), default=0))
+
+
+@lru_cache(_KEPT_TABLES)
+def _known_table(headers: bytes, size: int, texts: bytes) -> _Table:
+    """The same, kept for the next time."""
+    return _table(headers, size, texts)
+
+
 @dataclass(frozen=True)
 class DebugLink:
     """The contents of `.gnu_debuglink`: the name of the debug file, and the CRC-32 of its bytes."""
@@ -148,10 +177,11 @@ class ElfFile:
         self.size = os.fstat(self._file).st_size
         self.header = self._read_header()
         try:
-            self.sections = list(self._read_sections())
+            table = self._read_table()
         except DAMAGED as error:
             raise Fault(f"{self.name} is no ELF file, or is damaged in its headers") from error
-        self._check_ranges()
+        self.sections = list(table.sections)
+        self._check_ranges(table.end)
 
     def _bytes(self, offset: int, size: int) -> bytes:
         """Bytes of the file. Raises a fault if it ends before them."""
@@ -181,28 +211,26 @@ class ElfFile:
             raise Fault(f"{self.name} is no ELF-64 file in little endian")
         return header
 
-    def _read_sections(self) -> Iterator[Section]:
-        """The sections with their names. A count that is too large for the file header is in the first section header."""
+    def _read_table(self) -> _Table:
+        """The table of sections. A count that is too large for the file header is in the first section header."""
         header, layout = self.header, SECTION_LAYOUT
         if not header.sections_at:
-            return
+            return _Table((), 0)
         first = layout.unpack(self._bytes(header.sections_at, layout.size))
         count = header.sections or first[5]
         if header.section_size < layout.size or header.sections_at + count * header.section_size > self.size:
             raise ValueError("the table of sections does not lie in the file")
-        table = self._bytes(header.sections_at, count * header.section_size)
-        rows = [layout.unpack_from(table, number * header.section_size) for number in range(count)]
-        texts = self._names(rows)
-        for number, (name, *fields) in enumerate(rows):
-            end = texts.find(b"\0", name)
-            text = texts[name:end if end >= 0 else None]
-            yield Section(number, text.decode("utf-8", "surrogateescape"), *fields)
+        headers = self._bytes(header.sections_at, count * header.section_size)
+        texts = self._names(headers)
+        if len(headers) + len(texts) > _LARGEST_KEPT_TABLE:
+            return _table(headers, header.section_size, texts)
+        return _known_table(headers, header.section_size, texts)
 
-    def _names(self, rows: list[tuple[int, ...]]) -> bytes:
+    def _names(self, headers: bytes) -> bytes:
         """The names of the sections."""
         if not self.names_number:
             return b""
-        kind, offset, size = rows[self.names_number][1], *rows[self.names_number][4:6]
+        _, kind, _, _, offset, size, *_ = SECTION_LAYOUT.unpack_from(headers, self.names_number * self.header.section_size)
         if kind == SHT_NOBITS or offset + size > self.size:
             raise ValueError("the names of the sections do not lie in the file")
         return self._bytes(offset, size)
@@ -215,10 +243,10 @@ class ElfFile:
             return number
         return int(SECTION_LAYOUT.unpack(self._bytes(self.header.sections_at, SECTION_LAYOUT.size))[6])
 
-    def _check_ranges(self) -> None:
+    def _check_ranges(self, end: int) -> None:
         if not self.sections:
             raise Fault(f"{self.name} has no sections")
-        for section in self.sections:
+        for section in self.sections if end > self.size else ():
             if section.holds_bytes and section.offset + section.size > self.size:
                 raise Fault(f"{self.name} is cut short: its section {section.name} extends past the end of the file")
 

@@ -54,6 +54,10 @@ class _Sides:
         if not any(pair.old is old and pair.new is new for pair in self.pairs):
             self.pairs.append(Pair("", old, new, old.trouble or new.trouble, _folders(old, new)))
 
+    def is_done(self) -> bool:
+        """Whether no further pair is possible: each side has one library and they are a pair, or one side has none."""
+        return len(self.pairs) == len(self.old) * len(self.new) <= 1
+
     def left(self) -> tuple[list[PackagedLibrary], list[PackagedLibrary]]:
         """The libraries of both sides that are in no pair. An old one also counts as left if each new one is for better processors."""
         old = {pair.old for pair in self.pairs
@@ -209,6 +213,8 @@ def _pair(sides: _Sides) -> None:
     """Pairs the libraries of one soname that no name leads to on both sides: by folder and file name without numbers, and by folder; then
     what the loader finds in folders that it searches; then what moved, by file name and, if one library is left on each side, by
     soname."""
+    if sides.is_done():
+        return
     sides.pair_by(lambda one: (Place.of(one.folder), _stem(one.file_name)))
     sides.pair_by(lambda one: Place.of(one.folder))
     sides.pair_levels()

@@ -39,7 +39,7 @@ class Package:
     @property
     def rules(self) -> Optional[str]:
         """The name of its rule file, if it has one. Raises a fault if it has several."""
-        found = [name for name, node in sorted(self.tree.entries.items()) if _is_rule_name(name) and node is not Entry.FOLDER]
+        found = sorted(name for name, node in self.tree.entries.items() if _is_rule_name(name) and node is not Entry.FOLDER)
         if len(found) > 1:
             raise Fault(f"{self.file} brings several rule files: {', '.join(map(name_shown, found))}")
         return found[0] if found else None
