@@ -62,8 +62,8 @@ asks_usage call asked is none = cc
 asks_help : (call : Call) (asked : PlainRequest) → arguments_by call.words ≡ request asked → arguments_by call.words ≡ help → ⊥
 asks_help call asked is none = cc
 
-asks_version : (call : Call) (asked : PlainRequest) → arguments_by call.words ≡ request asked → arguments_by call.words ≡ version → ⊥
-asks_version call asked is none = cc
+no_version : (asked : PlainRequest) → request asked ≡ version → ⊥
+no_version asked same = cc
 
 module _ (call : Call) (asked : PlainRequest) (is : arguments_by call.words ≡ request asked) where
   this : (outcome : Outcome) (text : List ℕ) → Asks call (λ a. Replies call.reading (row_of call a).inputs (row_of call a).says outcome text)
@@ -74,7 +74,7 @@ module _ (call : Call) (asked : PlainRequest) (is : arguments_by call.words ≡ 
   reply_of Usage text answer = absurd (asks_usage call asked is answer.0)
   reply_of Help text answer = elim answer [
     | inl h ↦ absurd (asks_help call asked is h.0)
-    | inr h ↦ absurd (asks_version call asked is h.0)
+    | inr h ↦ absurd (no_version asked (sym is ∙ h.0))
   ]
   reply_of (Judged v untyped) text answer = this (Judged v untyped) text answer
   reply_of (Unreadable which fault) text answer = this (Unreadable which fault) text answer
