@@ -26,11 +26,11 @@ _PAGES = [_README, _GUIDE, *_MANUAL, _PACKAGES, _RULE_FILES, DOCS / "FAQ.md", _S
 # Pages that scripts make, with a section for each crate.
 _MADE = {"AUDIT", "CONTRACTS"}
 
-# Where rules of exports, and rules of types, are defined and checked.
-_FILES_OF_RULES = {
-    "X": ("pair_rules/specs/ExportRules.antt", "pair_compare/specs/reports/ExportRows.antt", "pair_rules/src/exports.rt"),
-    "L": ("pair_rules/specs/TypeRules.antt", "pair_rules/src/rules.rt"),
-}
+# Where rules on what is gone, on two exports, and on types are defined and checked.
+_GONE = ("pair_compare/specs/reports/ExportRows.antt", "pair_compare/src/reports/exports.rt")
+_EXPORTS = ("pair_rules/specs/ExportRules.antt", "pair_rules/src/exports.rt")
+_TYPES = ("pair_rules/specs/TypeRules.antt", "pair_rules/src/rules.rt")
+_FILES_OF_RULES = {"X1": _GONE, "X2": _GONE, "X3": _GONE, "X4": _EXPORTS, "X5": _EXPORTS, "X6": _EXPORTS}
 # Words that are neither numbers nor names of the sources, with the sections on them.
 _PROGRAMS = {
     "`abi check`": ((_GUIDE, "Two builds"), (_SPECIFICATION, "The verdict")),
@@ -52,6 +52,8 @@ _PROGRAMS = {
     "`import abi` (Python)": ((_PACKAGES, "From Python"),),
     "`make-packages`, `record.json`, licences": ((_GUIDE, "Packages of abi"),),
     "`install.sh`, kits": ((ROOT / "CONTRIBUTING.md", "Building, proving, testing"), (ROOT / "CONTRIBUTING.md", "The kit")),
+    "a certificate that came with a package, without the sources: `abi-packages --verify`": ((_PACKAGES, "Certificates that ship"),),
+    "how long a proof of each crate takes: `bench/gate.tsv`, and the longest": ((ROOT / "CONTRIBUTING.md", "How long it takes"),),
     "certificate: `bind`, `alike`, `pair`": ((_GUIDE, "Certificates"), (_SPECIFICATION, "Certificates")),
     "rule file: `[suppress_type]`, label": ((_RULE_FILES, ""), (_SPECIFICATION, "Rule files")),
     "`abi-json`, its document, `report.schema.json`": ((_MANUAL[0], "The document"),),
@@ -71,7 +73,9 @@ Where is what? Search this page for a word, a number or a name, and follow the l
 `man abi-gate`. `tests/links.sh --write` makes this page from the other pages and from the sources.
 
 """
-_LIMIT_SENTENCE = "Past a limit the sentence is `abi: past the limit on WORDS (LIMITS in abi(1))`, with status 4.\n\n"
+_LIMIT_SENTENCE = "Past a limit the sentence is `abi: past the limit on WORDS (LIMITS in abi(1))`, with status 4. " \
+    "The bytes of `.dynsym` and of the sections of versions include those of their string tables: the names of the symbols of a file " \
+    "may have what the row of dynamic symbols allows, less 24 bytes for each symbol.\n\n"
 _STATUSES = """\
 | Of | Status or answer | Where |
 |---|---|---|
@@ -129,13 +133,21 @@ def where_option(option: str) -> list[Section]:
     return sorted(found, key=lambda section: not first.search(section.text))[:2]
 
 
+def when_broken(rule: str) -> str:
+    """When SPECIFICATION prints the row of a rule of exports, if it says so beside the row."""
+    (verdict,) = [section for section in sections(_SPECIFICATION) if section.title == "The verdict"]
+    found = re.search(rf"^ *- `{rule} [^`]*` if ([^,;]*)", verdict.text, re.MULTILINE)
+    return ": " + re.sub(r"^it\b", "an old export", found[1]) if found else ""
+
+
 def rows_of_rules() -> Iterator[tuple[str, ...]]:
     """A row for each rule."""
     for rule in rules():
         exports = rule.word.startswith("X")
         exact = "the-verdict" if exports else "the-rules-of-types"
         pages = f"[what to do](GUIDE.md#what-to-do-about-a-break), [exactly](SPECIFICATION.md#{exact})"
-        yield rule.word, rule.words, pages, f"`{rule.name}`", ", ".join(f"`crates/{path}`" for path in _FILES_OF_RULES[rule.word[0]])
+        files = ", ".join(f"`crates/{path}`" for path in _FILES_OF_RULES.get(rule.word, _TYPES))
+        yield rule.word, rule.words + when_broken(rule.word), pages, f"`{rule.name}`", files
 
 
 def kind_of(number: int) -> str:
@@ -167,10 +179,13 @@ def rows_of_limits() -> Iterator[tuple[str, ...]]:
 def rows_of_notes() -> Iterator[tuple[str, ...]]:
     """A row for each kind of note."""
     told, breaking = at(_GUIDE, "What no rule judges"), at(_GUIDE, "Notes on what can break callers")
-    idle = at(_RULE_FILES, "Sections that match nothing")
+    gaps = at(_GAPS, "What abi does not see")
+    more = {"idle section": at(_RULE_FILES, "Sections that match nothing"), "qualifiers": gaps, "object qualifiers": gaps}
+    examples = {"qualifiers": ", such as `const`", "object qualifiers": ": an object that became `const` or `volatile`, or no longer is"}
     for kind, can_break in kinds_of_notes():
-        places = [breaking if can_break else told, *([idle] if kind.word == "idle section" else [])]
-        yield f"`{kind.word}`", kind.words, "can break callers" if can_break else "only told", ", ".join(places)
+        places = [breaking if can_break else told, *([more[kind.word]] if kind.word in more else [])]
+        about = kind.words + examples.get(kind.word, "")
+        yield f"`{kind.word}`", about, "can break callers" if can_break else "only told", ", ".join(places)
 
 
 def rows_of_programs() -> Iterator[tuple[str, ...]]:
@@ -235,12 +250,12 @@ def rows_of_points() -> Iterator[tuple[str, ...]]:
 
 
 def rows_of_words() -> str:
-    """The words of the glossary, each with its file, and the crates."""
+    """The words of the glossary, each with its meaning and its file, and the crates."""
     (glossary,) = [section for section in sections(_ARCHITECTURE) if section.title == "Glossary"]
-    words = [(row[0], row[2]) for rows in tables(glossary.text) for row in rows[1:]]
+    words = [tuple(row) for rows in tables(glossary.text) for row in rows[1:]]
     crates = [f"`{crate}`" for section in sections(_ARCHITECTURE) for rows in tables(section.text) if rows[0][0] == "Crate" and len(rows[0]) == 3
               for row in rows[1:] for crate in re.findall(r"`(\w+)`", row[0])]
-    return (f"{link(glossary)} says what each word means.\n\n{table('Word', 'Defined in', rows=words)}\n"
+    return (f"These are the words of {link(glossary)}.\n\n{table('Word', 'What it means', 'Defined in', rows=words)}\n"
             f"{at(_ARCHITECTURE, 'The crates')}: {', '.join(crates)}.\n")
 
 
