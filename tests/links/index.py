@@ -69,8 +69,8 @@ _PROGRAMS = {
 _HEAD = """\
 # Index
 
-Where is what? Search this page for a word, a number or a name, and follow the link in its line. Each tool also has a manual page, such as \
-`man abi-gate`. `tests/links.sh --write` makes this page from the other pages and from the sources.
+Where is what? Search this page for a word, a number or a name, in small and capital letters (`less -i`), and follow the link in its \
+line. Each tool also has a manual page, such as `man abi-gate`. `tests/links.sh --write` makes this page from the other pages and from the sources.
 
 """
 _LIMIT_SENTENCE = "Past a limit the sentence is `abi: past the limit on WORDS (LIMITS in abi(1))`, with status 4. " \
@@ -205,6 +205,11 @@ def rows_of_properties() -> Iterator[tuple[str, ...]]:
         yield f"`{name}`", read, ", ".join(places)
 
 
+def without_links(text: str) -> str:
+    """A text with the words of its links alone."""
+    return re.sub(r"\[([^]]*)\]\([^)]*\)", r"\1", text)
+
+
 def rows_of_sentences() -> Iterator[tuple[str, ...]]:
     """A row for each sentence that is in a table of what to do, and for those that the sources have besides."""
     known = set[str]()
@@ -212,7 +217,7 @@ def rows_of_sentences() -> Iterator[tuple[str, ...]]:
         for section in sections(page):
             for row in chain.from_iterable(rows[1:] for rows in tables(section.text) if rows[0][0] == head):
                 known.add(re.sub(r"[`.]", "", row[0]).strip())
-                yield row[0], link(section)
+                yield row[0], f"{without_links(row[1])}: {link(section)}"
     yield "`past the limit on ..`, `out of memory`", at(_LIMITS, "What is counted")
     yield "`.. (fault NUMBER NAME at PLACE)`", "[by the number](#faults)"
     numbered = {fault.word: fault for fault in faults()}
@@ -221,7 +226,7 @@ def rows_of_sentences() -> Iterator[tuple[str, ...]]:
         yield f"`{words}`", ", ".join(places) or "a fault, [by the number](#faults) at its end"
     for words in said():
         if not any(words[:30] in other for other in known):
-            yield f"`{words}`", at(_SPECIFICATION, "Answers")
+            yield f"`{words}`", f"{at(_GUIDE, 'Notes beside an answer')}; what is proved: {at(_PROOFS, 'Beside the answer, and beside the program')}"
 
 
 def rows_of_options() -> Iterator[tuple[str, ...]]:
@@ -265,11 +270,13 @@ def shown(page: Path) -> list[Section]:
 
 
 def rows_of_tables() -> Iterator[tuple[str, ...]]:
-    """A row for each section with tables, with the heads of these."""
-    for section in chain.from_iterable(shown(page) for page in _PAGES):
-        heads = list(dict.fromkeys(" / ".join(cell for cell in rows[0] if cell) for rows in tables(section.text)))
-        if heads and section.page.stem not in _MADE:
-            yield link(section), "; ".join(heads)
+    """A row for each section with tables, with the title of its page and the heads of the tables."""
+    for page in _PAGES:
+        first, *others = shown(page)
+        for section in (first, *others):
+            heads = list(dict.fromkeys(" / ".join(cell for cell in rows[0] if cell) for rows in tables(section.text)))
+            if heads and section.page.stem not in _MADE:
+                yield f"{link(section)} ({first.title})", "; ".join(heads)
 
 
 def contents() -> Iterator[str]:

@@ -119,5 +119,6 @@ def said() -> list[str]:
     """Sentences of `abi` beside an answer, as far as they are fixed words: those of more than three words."""
     paths = ("explain/specs/Sentences.antt", "explain/specs/OtherInputs.antt", "explain/specs/Programs.antt", "explain/specs/Tags.antt")
     found = [words for path in paths for words in re.findall(r'codes "([^"]*)"', read(path))]
-    found += re.findall(r'"([^"{}]+)"', "".join(line for line in read("explain/src/wrong.rt").splitlines() if not line.strip().startswith("//")))
+    code = "".join(line for line in read("explain/src/wrong.rt").splitlines() if not line.strip().startswith("//"))
+    found += [re.sub(r"{[^}]*}", "..", words) for words in re.findall(r'"([^"]+)"', code)]
     return list(dict.fromkeys(words.strip(" ,") for words in found if words.count(" ") > 2 and not words.startswith("refused")))
