@@ -37,7 +37,7 @@ from cryptography.x509.oid import NameOID
 from release_support import (LIBRARIES, THREE, Cluster, Host, answers, children, deb, is_alive, library, release, started, three, tree,
                              wait_for, wrapper_of)
 
-_WAIT = "while [ ! -e {go} ]; do sleep 0.1; done"
+_WAIT = "touch {go}.begun; while [ ! -e {go} ]; do sleep 0.1; done"
 
 
 def listening(process: int) -> list[tuple[str, int]]:
@@ -116,7 +116,7 @@ def test_another_user_of_the_machine_is_not_served(tmp_path: Path) -> None:
     wrapper = wrapper_of(tmp_path, _WAIT.format(go=tmp_path / "go"))
     process = started(tmp_path, "--workers", 2, wrapper=wrapper, TMPDIR=str(tmp_path / "tmp"))
     try:
-        wait_for(lambda: len(list((tmp_path / "out").glob("started/*"))) > 0)
+        wait_for((tmp_path / "go.begun").exists)
         found = listening(process.pid)
         # the scheduler, and two workers with their nannies
         assert {host for host, _ in found} == {"127.0.0.1"} and len(found) == 5, found
@@ -146,7 +146,7 @@ def test_the_dashboard_is_on_the_loopback(tmp_path: Path) -> None:
     needs("ss")
     three(tmp_path)
     process = started(tmp_path, "--workers", 1, "--dashboard", wrapper=wrapper_of(tmp_path, _WAIT.format(go=tmp_path / "go")))
-    wait_for(lambda: len(list((tmp_path / "out").glob("started/*"))) > 0)
+    wait_for((tmp_path / "go.begun").exists)
     found = listening(process.pid)
     (tmp_path / "go").touch()
     _, errors = process.communicate(timeout=400)
