@@ -41,7 +41,8 @@ pub trait Inputs {
         ensures started { started self.new ≡ count_after (started self.old) 1 }
 
         // If the bytes of the name are known, the current input answers to no other name.
-        ensures only { OnOk result (IfSome (told self.old name.now) (λ _. (other : List ℕ) → answers_to self.new other → other ≡ name.now)) }
+        ensures only { OnOk result (IfSome (told self.old name.now) (λ _. (other : List ℕ)
+            → answers_to self.new other → other ≡ name.now)) }
 
         ensures cause { OnErr result (Rose (faults self.old name.now) (faults self.new name.now)) }
         ensures steady { OnOk result (SameCounts (faults self.old) (faults self.new)) }
@@ -50,10 +51,12 @@ pub trait Inputs {
 
         // A failure counts once. An unplanned failure counts for no name whose bytes are known.
         ensures once { (other : List ℕ) → faults self.new other ≤ faults self.old other + 1 }
-        ensures missing { IfSome (is_made_to_fail self.old 0) (λ fails. fails ≡ false → (other : List ℕ) → IsSome (told self.old other) → faults self.new other ≡ faults self.old other) }
+        ensures missing { IfSome (is_made_to_fail self.old 0) (λ fails. fails ≡ false → (other : List ℕ)
+            → IsSome (told self.old other) → faults self.new other ≡ faults self.old other) }
 
         // Where the planned failures are known, `start` fails exactly in those calls and for names whose bytes are not known.
-        ensures fails { IfSome (is_made_to_fail self.old 0) (λ fails. is_err result ≡ (fails || is_none (told self.old name.now))) }
+        ensures fails { IfSome (is_made_to_fail self.old 0)
+            (λ fails. is_err result ≡ (fails || is_none (told self.old name.now))) }
         ensures next { (k : ℕ) → is_made_to_fail self.new k ≡ is_made_to_fail self.old (k + 1) };
 
     /// Reads the next bytes of the current input into the front of `into`. Answers their number: 0 only at the end,
@@ -67,7 +70,8 @@ pub trait Inputs {
         ensures bytes { ReadConsumes (left self.old) (left self.new) result into.new }
         ensures given { IfOk result (λ count. given self.new ≡ count_after (given self.old) count) }
 
-        ensures cause { OnErr result ((name : List ℕ) → answers_to self.old name → Rose (faults self.old name) (faults self.new name)) }
+        ensures cause { OnErr result ((name : List ℕ) → answers_to self.old name
+            → Rose (faults self.old name) (faults self.new name)) }
         ensures steady { OnOk result (SameCounts (faults self.old) (faults self.new)) }
         ensures kept_given { OnErr result (given self.new ≡ given self.old) }
         ensures started { started self.new ≡ started self.old }
@@ -116,12 +120,14 @@ pub fn read_whole<I: Inputs>(
 
     // More than `limit` bytes were read; where the bytes of the name are known, there are more than `limit`.
     ensures too_long { IsErrOf result Take.TooLong → limit < I.given inputs.new }
-    ensures told_too_long { IsErrOf result Take.TooLong → IfSome (I.told inputs.old name.now) (λ all. limit < length all) }
+    ensures told_too_long { IsErrOf result Take.TooLong
+        → IfSome (I.told inputs.old name.now) (λ all. limit < length all) }
     ensures given_more { limit < I.given inputs.new → IsErrOf result Take.TooLong }
 
     // If no failure is planned and the bytes of the name are known, no fault count rises.
     ensures still { Unfailing I.is_made_to_fail inputs.old → Unfailing I.is_made_to_fail inputs.new }
-    ensures steady { Unfailing I.is_made_to_fail inputs.old → IsSome (I.told inputs.old name.now) → SameCounts (I.faults inputs.old) (I.faults inputs.new) }
+    ensures steady { Unfailing I.is_made_to_fail inputs.old → IsSome (I.told inputs.old name.now)
+        → SameCounts (I.faults inputs.old) (I.faults inputs.new) }
 
     ensures failed { IsErrOf result Take.Failed → Rose (I.faults inputs.old name.now) (I.faults inputs.new name.now) }
     ensures failed_within { IsErrOf result Take.Failed → I.given inputs.new ≤ limit }

@@ -56,7 +56,8 @@ fn leb_len(bytes: &[u8], at: usize) -> Option<usize>
 
 // The number with these seven-bit digits, lowest first.
 fn digits_value(digits: &[u8]) -> Option<u64>
-    ensures { result ≡ (let value = number_of 128 (low_digits digits.now) in if nat_lt value (2 ^ 64) then Some value else None) }
+    ensures { result ≡ (let value = number_of 128 (low_digits digits.now) in if nat_lt value (2 ^ 64)
+        then Some value else None) }
 {
     let mut value = 0u64;
     let mut left = digits.len();

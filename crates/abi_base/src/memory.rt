@@ -20,7 +20,8 @@ impl Calls {
     #[tactic(auto, using(crate::proofs::Loops::listed_later))]
     fn next_fails(&mut self) -> bool
         ensures listed { result ≡ is_listed self.old.failing.items self.old.so_far 0 }
-        ensures later { (k : ℕ) → is_listed self.new.failing.items self.new.so_far k ≡ is_listed self.old.failing.items self.old.so_far (k + 1) }
+        ensures later { (k : ℕ) → is_listed self.new.failing.items self.new.so_far k
+            ≡ is_listed self.old.failing.items self.old.so_far (k + 1) }
     {
         self.so_far = self.so_far.saturating_add(1);
         self.failing.contains(&self.so_far)
@@ -55,7 +56,8 @@ impl MemInputs {
         ensures given { ⟦<MemInputs as Inputs>⟧.given result ≡ 0 }
         ensures started { ⟦<MemInputs as Inputs>⟧.started result ≡ 0 }
 
-        ensures calls { (k : ℕ) → ⟦<MemInputs as Inputs>⟧.is_made_to_fail result k ≡ Some (is_listed failing.items 0 k) }
+        ensures calls { (k : ℕ) → ⟦<MemInputs as Inputs>⟧.is_made_to_fail result k
+            ≡ Some (is_listed failing.items 0 k) }
     {
         MemInputs {
             files,
@@ -185,7 +187,8 @@ impl MemSink {
         ensures faults { IfOk result (λ sink. ⟦<MemSink as Sink>⟧.faults sink ≡ 0) }
         ensures room { IfOk result (λ sink. ⟦<MemSink as Sink>⟧.room sink ≡ Some sink_room) }
         ensures takes { IfOk result (λ sink. ⟦<MemSink as Sink>⟧.takes sink ≡ Some take) }
-        ensures calls { IfOk result (λ sink. (k : ℕ) → ⟦<MemSink as Sink>⟧.is_made_to_fail sink k ≡ Some (is_listed failing.items 0 k)) }
+        ensures calls { IfOk result (λ sink. (k : ℕ)
+            → ⟦<MemSink as Sink>⟧.is_made_to_fail sink k ≡ Some (is_listed failing.items 0 k)) }
     {
         Ok(MemSink {
             bytes: Vec::with_capacity(alloc, ROOM)?,

@@ -67,7 +67,8 @@ pub fn place_of<Ix: Index, Jx: Index>(
     part: &Part<Jx>,
     k: usize,
 ) -> Option<usize>
-    ensures { result ≡ parts_spec.place_of (like (plain_part Jx.number_of part.now)) k (map (plain_part Ix.number_of) items.now) }
+    ensures { result ≡ parts_spec.place_of (like (plain_part Jx.number_of part.now)) k
+        (map (plain_part Ix.number_of) items.now) }
 {
     let mut left = k;
     for i in 0..items.len() {

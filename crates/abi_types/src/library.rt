@@ -58,7 +58,8 @@ impl<'a, Ix: Index> Library<'a, Ix> {
         graph: Graph<'a, Ix>,
     ) -> Result<Library<'a, Ix>, NoMemory>
         requires { IsLibrary (plain_exports exports) graph }
-        ensures library { IfOk result (λ library. library ≡ plain_library (sha256 file.now) soname.entry exports.entry graph.entry) }
+        ensures library { IfOk result (λ library. library
+            ≡ plain_library (sha256 file.now) soname.entry exports.entry graph.entry) }
         ensures named { IfErr result (λ e. e ≡ Allocation) }
     {
         let by_name = name_order_of(alloc, exports.as_slice())?;

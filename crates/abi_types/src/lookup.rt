@@ -40,7 +40,9 @@ fn count_up<'a, Ix: Index>(
 ) -> Result<usize, NoMemory>
     requires { count_under counts.old (plain_part Ix.number_of part.now) + 1 < 2 ^ 64 }
     ensures number { IfOk result (λ n. n ≡ count_under counts.old (plain_part Ix.number_of part.now)) }
-    ensures counts { OnOk result ((q : PlainPart) → count_under counts.new q ≡ count_under counts.old q + (if like q (plain_part Ix.number_of part.now) then 1 else 0)) }
+    ensures counts { OnOk result ((q : PlainPart)
+        → count_under counts.new q ≡ count_under counts.old q
+        + (if like q (plain_part Ix.number_of part.now) then 1 else 0)) }
     ensures named { IfErr result (λ e. e ≡ Allocation) }
 {
     let key = (sort_of(part), name_of(part));

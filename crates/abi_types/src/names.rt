@@ -66,7 +66,8 @@ pub fn name_order_of(alloc: Global, exports: &[Export]) -> Result<Vec<usize>, No
 fn count_before(exports: &[Export], places: &[usize], name: &[u8]) -> usize
     requires { IsNameOrder places.now (plain_exports exports.now) }
     ensures inside { result ≤ length places.now }
-    ensures parts { IsPartitionPoint (λ k. is_lt (named_cmp (plain_exports exports.now) name.now k) ≡ true) (λ k. is_lt (named_cmp (plain_exports exports.now) name.now k) ≡ false) places.now result }
+    ensures parts { IsPartitionPoint (λ k. is_lt (named_cmp (plain_exports exports.now) name.now k) ≡ true)
+        (λ k. is_lt (named_cmp (plain_exports exports.now) name.now k) ≡ false) places.now result }
 {
     places.partition_point(|k| stands_before(exports, *k, name))
 }
@@ -75,7 +76,8 @@ fn count_before(exports: &[Export], places: &[usize], name: &[u8]) -> usize
 fn count_upto(exports: &[Export], places: &[usize], name: &[u8]) -> usize
     requires { IsNameOrder places.now (plain_exports exports.now) }
     ensures inside { result ≤ length places.now }
-    ensures parts { IsPartitionPoint (λ k. is_le (named_cmp (plain_exports exports.now) name.now k) ≡ true) (λ k. is_le (named_cmp (plain_exports exports.now) name.now k) ≡ false) places.now result }
+    ensures parts { IsPartitionPoint (λ k. is_le (named_cmp (plain_exports exports.now) name.now k) ≡ true)
+        (λ k. is_le (named_cmp (plain_exports exports.now) name.now k) ≡ false) places.now result }
 {
     places.partition_point(|k| stands_upto(exports, *k, name))
 }

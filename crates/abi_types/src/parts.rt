@@ -61,7 +61,8 @@ fn kept_lookup<'a, Ix: Index>(
     alloc: Global,
     items: &[Part<'a, Ix>],
 ) -> Result<Option<Box<Lookup<'a>>>, NoMemory>
-    ensures lookup { IfOk result (λ lookup. ForSome lookup (λ kept. IsLookup kept.value (map (plain_part Ix.number_of) items.now))) }
+    ensures lookup { IfOk result (λ lookup. ForSome lookup
+        (λ kept. IsLookup kept.value (map (plain_part Ix.number_of) items.now))) }
     ensures named { IfErr result (λ e. e ≡ Allocation) }
 {
     if items.len() <= SHORT {

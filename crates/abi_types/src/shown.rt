@@ -51,7 +51,8 @@ fn push_version(
     hidden: bool,
     version: Option<&[u8]>,
 ) -> Result<(), AllocError>
-    ensures { OnOk result (string_bytes text.new ≡ string_bytes text.old ++ shown_version hidden (option_copied version.entry)) }
+    ensures { OnOk result (string_bytes text.new
+        ≡ string_bytes text.old ++ shown_version hidden (option_copied version.entry)) }
 {
     match version {
         None => Ok(()),

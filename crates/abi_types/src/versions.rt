@@ -77,7 +77,8 @@ pub fn version_order_of(alloc: Global, exports: &[Export]) -> Result<Vec<usize>,
 fn count_before(exports: &[Export], places: &[usize], name: &[u8], version: Option<&[u8]>) -> usize
     requires { IsVersionOrder places.now (plain_exports exports.now) }
     ensures inside { result ≤ length places.now }
-    ensures parts { IsPartitionPoint (λ k. is_lt (versioned_cmp (plain_exports exports.now) name.now (option_copied version.entry) k) ≡ true)
+    ensures parts { IsPartitionPoint (λ k. is_lt
+        (versioned_cmp (plain_exports exports.now) name.now (option_copied version.entry) k) ≡ true)
         (λ k. is_lt (versioned_cmp (plain_exports exports.now) name.now (option_copied version.entry) k) ≡ false) places.now result }
 {
     places.partition_point(|k| stands_before(exports, *k, name, version))
@@ -87,7 +88,8 @@ fn count_before(exports: &[Export], places: &[usize], name: &[u8], version: Opti
 fn count_upto(exports: &[Export], places: &[usize], name: &[u8], version: Option<&[u8]>) -> usize
     requires { IsVersionOrder places.now (plain_exports exports.now) }
     ensures inside { result ≤ length places.now }
-    ensures parts { IsPartitionPoint (λ k. is_le (versioned_cmp (plain_exports exports.now) name.now (option_copied version.entry) k) ≡ true)
+    ensures parts { IsPartitionPoint (λ k. is_le
+        (versioned_cmp (plain_exports exports.now) name.now (option_copied version.entry) k) ≡ true)
         (λ k. is_le (versioned_cmp (plain_exports exports.now) name.now (option_copied version.entry) k) ≡ false) places.now result }
 {
     places.partition_point(|k| stands_upto(exports, *k, name, version))

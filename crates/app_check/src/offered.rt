@@ -39,7 +39,8 @@ fn exports_among<'a>(
     requires symbols { plain_symbols symbols.now ≡ symbols_of file.now }
     requires numbered { map (λ s. s.number) (plain_symbols symbols.now) ≡ range_with_len 0 (length symbols.now) }
     requires few { length symbols.now < 2 ^ 32 }
-    ensures judged { Judges result (first (version_fault file.now (length (symbols_of file.now)) ∷ export_fault (symbols_of file.now) (symbol_versions file.now) ∷ [])) }
+    ensures judged { Judges result (first (version_fault file.now (length (symbols_of file.now))
+        ∷ export_fault (symbols_of file.now) (symbol_versions file.now) ∷ [])) }
     ensures read { IfOk result (λ exports. plain_exports exports.items ≡ exports_of file.now) }
     ensures past { IfErr result (λ e. OnPast e (ExportsPass file.now)) }
 {

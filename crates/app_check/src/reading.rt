@@ -143,8 +143,10 @@ fn imports_in<'a>(
     requires { length symbols.now < 2 ^ 32 }
     ensures read { IfOk result (λ imports. plain_imports imports.items
         ≡ imports_with (needed needs.now) indexes.now (plain_symbols symbols.now)) }
-    ensures short { IfOk result (λ imports. all_need_bytes (plain_imports imports.items) ≤ most_need_bytes (length symbols.now)) }
-    ensures past { IfErr result (λ e. OnLimit e (PassesImportsWith (needed needs.now) indexes.now (plain_symbols symbols.now))) }
+    ensures short { IfOk result (λ imports. all_need_bytes (plain_imports imports.items)
+        ≤ most_need_bytes (length symbols.now)) }
+    ensures past { IfErr result (λ e. OnLimit e
+        (PassesImportsWith (needed needs.now) indexes.now (plain_symbols symbols.now))) }
 {
     let mut imports = Vec::new(alloc);
     let mut budget = Budget::of(Limit::ImportNeeds, SYM_SIZE * symbols.len());
@@ -166,9 +168,11 @@ pub(crate) fn imports_among<'a>(
 ) -> Result<Vec<Import<'a>>, Refusal>
     requires symbols { plain_symbols symbols.now ≡ symbols_of file.now }
     requires few { length symbols.now < 2 ^ 32 }
-    ensures judged { Judges result (first (version_fault file.now (length (symbols_of file.now)) ∷ needs_fault file.now ∷ imports_fault file.now ∷ [])) }
+    ensures judged { Judges result (first (version_fault file.now (length (symbols_of file.now))
+        ∷ needs_fault file.now ∷ imports_fault file.now ∷ [])) }
     ensures read { IfOk result (λ imports. plain_imports imports.items ≡ imports_of file.now) }
-    ensures short { IfOk result (λ imports. all_need_bytes (plain_imports imports.items) ≤ most_need_bytes (length (symbols_of file.now))) }
+    ensures short { IfOk result (λ imports. all_need_bytes (plain_imports imports.items)
+        ≤ most_need_bytes (length (symbols_of file.now))) }
     ensures past { IfErr result (λ e. OnPast e (ImportsPass file.now)) }
 {
     versions(alloc, file, symbols.len())?;
@@ -189,7 +193,8 @@ pub fn read_app<'a>(alloc: Global, bytes: &'a [u8]) -> Result<Vec<Import<'a>>, R
     requires { length bytes.now ≤ input_limit }
     ensures judged { Judges result (app_fault bytes.now) }
     ensures read { IfOk result (λ imports. plain_imports imports.items ≡ imports_of bytes.now) }
-    ensures short { IfOk result (λ imports. all_need_bytes (plain_imports imports.items) ≤ most_need_bytes (length (symbols_of bytes.now))) }
+    ensures short { IfOk result (λ imports. all_need_bytes (plain_imports imports.items)
+        ≤ most_need_bytes (length (symbols_of bytes.now))) }
     ensures past { IfErr result (λ e. OnPast e (AppPasses bytes.now)) }
 {
     let file = read_elf(bytes)?;

@@ -25,7 +25,8 @@ pub fn check_cert(
     marks: &Marks,
     cert: &Cert,
 ) -> Result<(), Refused>
-    ensures settles { Settles (asked old.now new.now marks.now cert.now) (places (asked old.now new.now marks.now cert.now)) result }
+    ensures settles { Settles (asked old.now new.now marks.now cert.now)
+        (places (asked old.now new.now marks.now cert.now)) result }
     ensures agreed { OnOk result (AreEven (task_of (sides old.now new.now marks.now))
         → IsAgreed (sides old.now new.now marks.now)) }
 {
@@ -45,7 +46,8 @@ fn check_conditions(
     marks: &Marks,
     cert: &Cert,
 ) -> Result<(), Refused>
-    ensures { Settles (asked old.now new.now marks.now cert.now) (places (asked old.now new.now marks.now cert.now)) result }
+    ensures { Settles (asked old.now new.now marks.now cert.now)
+        (places (asked old.now new.now marks.now cert.now)) result }
 {
     let ground = CertifiedPair {
         old,

@@ -54,7 +54,8 @@ pub fn check_rules(ground: &CertifiedPair) -> Result<(), Refused>
 
 // Whether the types of two exports have a pair line by their representatives, by value.
 fn has_root_line(ground: &CertifiedPair, old: &Export, new: &Export) -> bool
-    ensures { result ≡ certified_pair_spec.has_root_line (case_of ground.now) (plain_export old.now) (plain_export new.now) }
+    ensures { result ≡ certified_pair_spec.has_root_line (case_of ground.now) (plain_export old.now)
+        (plain_export new.now) }
 {
     let cert = ground.cert;
     cert.known();

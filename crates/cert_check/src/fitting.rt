@@ -38,8 +38,10 @@ pub fn pairs_fit(
     marks: &Marks,
     cert: &Cert,
 ) -> Result<(), NoMemory>
-    ensures within { OnOk result (lines_weight (sides old.now new.now marks.now) cert.now.pairs ≤ lines_allowed (sides old.now new.now marks.now)) }
-    ensures past { OnErr result (lines_allowed (sides old.now new.now marks.now) < lines_weight (sides old.now new.now marks.now) cert.now.pairs) }
+    ensures within { OnOk result (lines_weight (sides old.now new.now marks.now) cert.now.pairs
+        ≤ lines_allowed (sides old.now new.now marks.now)) }
+    ensures past { OnErr result (lines_allowed (sides old.now new.now marks.now)
+        < lines_weight (sides old.now new.now marks.now) cert.now.pairs) }
     ensures named { IfErr result (λ e. e ≡ Past PairParts) }
 {
     let ground = CertifiedPair {

@@ -42,7 +42,8 @@ pub fn find_at<'x, 'a, Ix: Index>(
 /// The export of a library to which another one binds, or `None` if it binds to none.
 #[tactic(auto, using(crate::proofs::ExportLemmas::bound_none, crate::proofs::ExportLemmas::bound_at))]
 pub fn bound_to<'x, 'n>(export: &Export, new: &'x Library<'n, NewIx>) -> Option<&'x Export<'n>>
-    ensures { MatchOption result (option_and_then (slice_get new.now.exports) (bind_to new.now.exports (plain_export export.now)) ≡ None)
+    ensures { MatchOption result (option_and_then (slice_get new.now.exports)
+        (bind_to new.now.exports (plain_export export.now)) ≡ None)
         (λ partner. option_and_then (slice_get new.now.exports) (bind_to new.now.exports (plain_export export.now)) ≡ Some (plain_export partner.now)) }
 {
     match bind_in(export, new) {

@@ -94,7 +94,8 @@ fn same_class<Ix: Index>(graph: &Graph<Ix>, lines: &[(u64, u64)], one: Ix, other
     requires one { Ix.number_of one < length graph.now }
     requires other { Ix.number_of other < length graph.now }
     requires ascend { Ascend first_cmp lines.now }
-    ensures { result ≡ (class_in graph.now lines.now (Ix.number_of one) == class_in graph.now lines.now (Ix.number_of other)) }
+    ensures { result ≡ (class_in graph.now lines.now (Ix.number_of one)
+        == class_in graph.now lines.now (Ix.number_of other)) }
 {
     class_of(graph, lines, one) == class_of(graph, lines, other)
 }
@@ -109,7 +110,8 @@ fn same_part<Ix: Index>(
     requires one { NamesInside graph.now (plain_part Ix.number_of one.now) }
     requires other { NamesInside graph.now (plain_part Ix.number_of other.now) }
     requires ascend { Ascend first_cmp lines.now }
-    ensures { result ≡ looks.same_part (class_in graph.now lines.now) (plain_part Ix.number_of one.now) (plain_part Ix.number_of other.now) }
+    ensures { result ≡ looks.same_part (class_in graph.now lines.now) (plain_part Ix.number_of one.now)
+        (plain_part Ix.number_of other.now) }
 {
     match (one, other) {
         (

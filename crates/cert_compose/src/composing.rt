@@ -132,11 +132,18 @@ pub fn compose(
 ) -> Result<Cert, ComposeRefusal>
     requires same { chain.now.middle_old.now ≡ chain.now.middle_new.now }
     requires chain { IsChain (joint chain.now.first.now chain.now.middle_new.now chain.now.last.now one.now other.now) }
-    ensures composed { IfOk result (IsComposed (joint chain.now.first.now chain.now.middle_new.now chain.now.last.now one.now other.now)) }
-    ensures nothing { OnOk result (NothingBetween (joint chain.now.first.now chain.now.middle_new.now chain.now.last.now one.now other.now)) }
-    ensures accepted { IfOk result (λ cert. IsAccepted (far_case (joint chain.now.first.now chain.now.middle_new.now chain.now.last.now one.now other.now) cert)) }
-    ensures refused { IfErr result (IsRefusal (joint chain.now.first.now chain.now.middle_new.now chain.now.last.now one.now other.now)) }
-    ensures past { IfErr result (λ e. OnRefusal e (CompositionPasses (joint chain.now.first.now chain.now.middle_new.now chain.now.last.now one.now other.now))) }
+    ensures composed { IfOk result (IsComposed
+        (joint chain.now.first.now chain.now.middle_new.now chain.now.last.now one.now other.now)) }
+    ensures nothing { OnOk result (NothingBetween
+        (joint chain.now.first.now chain.now.middle_new.now chain.now.last.now one.now other.now)) }
+    ensures accepted { IfOk result (λ cert. IsAccepted
+        (far_case (joint chain.now.first.now chain.now.middle_new.now chain.now.last.now one.now other.now)
+        cert)) }
+    ensures refused { IfErr result (IsRefusal
+        (joint chain.now.first.now chain.now.middle_new.now chain.now.last.now one.now other.now)) }
+    ensures past { IfErr result (λ e. OnRefusal e
+        (CompositionPasses (joint chain.now.first.now chain.now.middle_new.now chain.now.last.now one.now
+        other.now))) }
 {
     what_is_composed_is_accepted();
     let ground = CertifiedChain {

@@ -84,7 +84,8 @@ fn keeps_rules(ground: &CertifiedChain, k: usize) -> bool
 
 // Whether the export between two has a type, if those two have types.
 fn keeps_type(export: &Export, between: &Export, partner: &Export) -> bool
-    ensures { result ≡ (not (spec.is_typed (plain_export export.now)) || not (spec.is_typed (plain_export partner.now)) || spec.is_typed (plain_export between.now)) }
+    ensures { result ≡ (not (spec.is_typed (plain_export export.now))
+        || not (spec.is_typed (plain_export partner.now)) || spec.is_typed (plain_export between.now)) }
 {
     !is_typed(export) || !is_typed(partner) || is_typed(between)
 }

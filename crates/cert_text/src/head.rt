@@ -80,7 +80,8 @@ fn answer(version: Version) -> &'static [u8]
 
 // The position of the second line, after the answer.
 fn read_answer(version: Version, bytes: &[u8]) -> Result<usize, Fault>
-    ensures { MatchResult result (λ next. Passes version 1 (answer_test version) bytes.now 0 next (spec.answer version)) (λ fault. Fails 1 (answer_test version) bytes.now 0 fault) }
+    ensures { MatchResult result (λ next. Passes version 1 (answer_test version) bytes.now 0 next
+        (spec.answer version)) (λ fault. Fails 1 (answer_test version) bytes.now 0 fault) }
 {
     match line_end(bytes, 0) {
         None => Err(end_fault(1)),
@@ -104,7 +105,8 @@ struct DigestLine {
 // The digest after a word in the line at a position.
 fn read_digest(bytes: &[u8], at: usize, number: u64, word: &[u8]) -> Result<DigestLine, Fault>
     requires { at ≤ length bytes.now }
-    ensures { MatchResult result (λ line. HasDigest number word.now bytes.now at line.digest line.next) (λ fault. Fails number (digest_test word.now) bytes.now at fault) }
+    ensures { MatchResult result (λ line. HasDigest number word.now bytes.now at line.digest line.next)
+        (λ fault. Fails number (digest_test word.now) bytes.now at fault) }
 {
     match line_end(bytes, at) {
         None => Err(end_fault(number)),
@@ -133,7 +135,8 @@ pub struct Head {
 
 /// The digests in the first four lines of a text, or the fault of the first of these lines that has one.
 pub fn read_head(version: Version, bytes: &[u8]) -> Result<Head, Fault>
-    ensures { MatchResult result (λ head. HasHead version bytes.now head.old_digest head.new_digest head.rules_digest head.next) (λ fault. fault_of version bytes.now ≡ Some fault) }
+    ensures { MatchResult result (λ head. HasHead version bytes.now head.old_digest head.new_digest
+        head.rules_digest head.next) (λ fault. fault_of version bytes.now ≡ Some fault) }
 {
     let second = read_answer(version, bytes)?;
     let old = read_digest(bytes, second, 2, b"old ")?;

@@ -33,7 +33,8 @@ fn read_line(
     before: Option<Line>,
     text: &[u8],
 ) -> Result<Line, Fault>
-    ensures { MatchResult result (λ line. Accepts version number before text.now line) (λ fault. LineFails version number before text.now fault) }
+    ensures { MatchResult result (λ line. Accepts version number before text.now line)
+        (λ fault. LineFails version number before text.now fault) }
 {
     if is_over(before) {
         return Err(end_fault(number));

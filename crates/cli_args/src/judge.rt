@@ -62,7 +62,8 @@ fn requested<'a>(
 
 // Whether a command does not take one of the options that are given, or takes another number of arguments.
 fn is_misfit(name: CommandName, words: &[&str], has_rules: bool, has_report: bool) -> bool
-    ensures { result ≡ (is_some (needless_of (row_of name) has_rules has_report) || not (length (texts words.now) == length (row_of name).arguments)) }
+    ensures { result ≡ (is_some (needless_of (row_of name) has_rules has_report)
+        || not (length (texts words.now) == length (row_of name).arguments)) }
 {
     needless_option(name, has_rules, has_report).is_some() || words.len() != taken_by(name).count
 }

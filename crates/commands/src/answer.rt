@@ -40,13 +40,17 @@ pub fn answer_with<'a, C: Command, I: Inputs>(
     requires places { map plain_place places.now ≡ places_of (C.inputs command) }
     requires short { AreOwnShort (places_of (C.inputs command)) }
     requires unheard { All (λ listener. heard listener ≡ []) listeners.items }
-    ensures replies { IfOk result (λ a. Replies (reading_of I.told I.faults I.given I.started inputs.old inputs.new) (C.inputs command) (C.says command (map voice listeners.items)) a.outcome a.text.items) }
+    ensures replies { IfOk result (λ a. Replies
+        (reading_of I.told I.faults I.given I.started inputs.old inputs.new) (C.inputs command)
+        (C.says command (map voice listeners.items)) a.outcome a.text.items) }
     // If no call is made to fail and the bytes of all inputs are known, no fault count rises.
     ensures steady { Unfailing I.is_made_to_fail inputs.old
         → AreTold (I.told inputs.old) (places_of (C.inputs command))
         → SameCounts (I.faults inputs.old) (I.faults inputs.new) }
     ensures files { IfOk result (λ a. map plain_file a.files.items ≡ files_of (places_of (C.inputs command))) }
-    ensures past { IfErr result (λ cause. OnLimit cause (λ limit. OnBytes (reading_of I.told I.faults I.given I.started inputs.old inputs.new) (C.inputs command) (λ all. C.passes command all limit))) }
+    ensures past { IfErr result (λ cause. OnLimit cause
+        (λ limit. OnBytes (reading_of I.told I.faults I.given I.started inputs.old inputs.new)
+        (C.inputs command) (λ all. C.passes command all limit))) }
 {
     let files = files_in(alloc, places)?;
     match read_all(alloc, inputs, places) {

@@ -48,6 +48,7 @@ pub trait Command: Drop {
         requires unheard { All (λ listener. heard listener ≡ []) listeners.items }
         requires short { AreShort (map items_of all.now) }
         ensures readable { OnOk result (AreReadable (asks_of (inputs self)) (map items_of all.now)) }
-        ensures said { IfOk result (λ j. says self (map voice listeners.items) (map items_of all.now) j.verdict j.untyped j.text.items) }
+        ensures said { IfOk result (λ j. says self (map voice listeners.items)
+            (map items_of all.now) j.verdict j.untyped j.text.items) }
         ensures stops { IfErr result (StopsAt (asks_of (inputs self)) (passes self) (map items_of all.now)) };
 }

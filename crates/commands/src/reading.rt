@@ -16,14 +16,16 @@ fn read_one<I: Inputs>(alloc: Global, inputs: &mut I, place: &Place<'_>) -> Resu
     requires { IsOwnShort (plain_place place.now).1 }
     ensures told { (other : List ℕ) → I.told inputs.new other ≡ I.told inputs.old other }
     ensures later { NeverFall (I.faults inputs.old) (I.faults inputs.new) }
-    ensures given { IfOk result (λ bytes. IfSome (told_of (I.told inputs.old) (plain_place place.now).1) (λ t. bytes.items ≡ t)) }
+    ensures given { IfOk result (λ bytes. IfSome (told_of (I.told inputs.old) (plain_place place.now).1)
+        (λ t. bytes.items ≡ t)) }
     ensures short { IfOk result (λ bytes. length bytes.items ≤ input_limit) }
     ensures still { Unfailing I.is_made_to_fail inputs.old → Unfailing I.is_made_to_fail inputs.new }
     ensures steady { Unfailing I.is_made_to_fail inputs.old
         → IsSome (told_of (I.told inputs.old) (plain_place place.now).1)
         → SameCounts (I.faults inputs.old) (I.faults inputs.new) }
     ensures started { I.started inputs.new ≡ starts_after_source (plain_place place.now).1 (I.started inputs.old) }
-    ensures unread { IfErr result (StopsOne (I.told inputs.old) (I.faults inputs.old) (I.faults inputs.new) (I.given inputs.new) (plain_place place.now)) }
+    ensures unread { IfErr result (StopsOne (I.told inputs.old) (I.faults inputs.old) (I.faults inputs.new)
+        (I.given inputs.new) (plain_place place.now)) }
 {
     match &place.source {
         Source::Own(bytes) => Ok(Vec::from_slice(alloc, bytes)?),
@@ -51,11 +53,13 @@ pub(crate) fn read_all<I: Inputs>(
     requires { AreOwnShort (map plain_place places.now) }
     ensures told { (name : List ℕ) → I.told inputs.new name ≡ I.told inputs.old name }
     ensures later { NeverFall (I.faults inputs.old) (I.faults inputs.new) }
-    ensures given { IfOk result (λ all. Gives (I.told inputs.old) (map plain_place places.now) (map items_of all.items)) }
+    ensures given { IfOk result (λ all. Gives (I.told inputs.old) (map plain_place places.now)
+        (map items_of all.items)) }
     // If no call is made to fail and the bytes of all inputs are known, no fault count rises.
     ensures steady { Unfailing I.is_made_to_fail inputs.old → AreTold (I.told inputs.old) (map plain_place places.now)
         → SameCounts (I.faults inputs.old) (I.faults inputs.new) }
-    ensures unread { IfErr result (StopsReading (reading_of I.told I.faults I.given I.started inputs.old inputs.new) (map plain_place places.now)) }
+    ensures unread { IfErr result (StopsReading
+        (reading_of I.told I.faults I.given I.started inputs.old inputs.new) (map plain_place places.now)) }
 {
     let mut all = Vec::new(alloc);
     for place in places {

@@ -171,7 +171,8 @@ impl<'a> Links<'a> {
     pub(crate) fn is_too_deep(&self, origin: Link, specification: Link) -> bool
         requires origin { IfSome (linked origin) (λ f. f < length self.now.entries) }
         requires specification { IfSome (linked specification) (λ f. f < length self.now.entries) }
-        ensures { result ≡ is_some (option_map_or (λ f. after_links self.now f chain_limit) (either_link origin specification) None) }
+        ensures { result ≡ is_some (option_map_or (λ f. after_links self.now f chain_limit)
+            (either_link origin specification) None) }
     {
         match origin.entry_or(specification) {
             Some(to) => self.leads_on(to, CHAIN_LINKS),

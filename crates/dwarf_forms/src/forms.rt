@@ -172,7 +172,9 @@ pub fn fixed_size(form: u64) -> Option<u16>
 #[tactic(auto, using(crate::proofs::FormLemmas::fixed_ends))]
 pub fn fixed_end(form: u64, unit_end: u64, at: usize) -> Option<usize>
     ensures exact { result ≡ fixed_end_of (fixed_size_of (shape_of form)) unit_end at }
-    ensures end { IfSome result (λ end. (implicit : ℤ) (unit_start entry : ℕ) (bytes : List ℕ) → unit_end ≤ length bytes → place_after (value_at form implicit unit_start unit_end entry bytes at) ≡ Ok end) }
+    ensures end { IfSome result (λ end. (implicit : ℤ) (unit_start entry : ℕ) (bytes : List ℕ)
+        → unit_end ≤ length bytes → place_after (value_at form implicit unit_start unit_end entry bytes at)
+        ≡ Ok end) }
     ensures after { IfSome result (λ end. at ≤ end) }
     ensures inside { IfSome result (λ end. at ≤ unit_end → end ≤ unit_end) }
 {
@@ -210,7 +212,8 @@ pub fn value_end(
     at: usize,
 ) -> Result<usize, Fault>
     requires { unit_end ≤ length bytes.now }
-    ensures read { (implicit : ℤ) (unit_start : ℕ) → result ≡ place_after (value_at form implicit unit_start unit_end entry bytes.now at) }
+    ensures read { (implicit : ℤ) (unit_start : ℕ)
+        → result ≡ place_after (value_at form implicit unit_start unit_end entry bytes.now at) }
     ensures after { IfOk result (λ end. at ≤ end) }
     ensures inside { IfOk result (λ end. at ≤ unit_end → end ≤ unit_end) }
 {

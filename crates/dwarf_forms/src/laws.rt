@@ -6,8 +6,10 @@ ghost use Rattle.dwarf_forms.specs.Values.{FixedSizesEnd, value_at, Refers, Refe
 
 /// The offset after a value is not before the value and not past the end of the unit.
 pub fn reading_moves_on_inside_the_unit()
-    ensures after { (form : ℕ) (implicit : ℤ) (unit end entry : ℕ) (bytes : List ℕ) (at : ℕ) (read : Value × ℕ) → value_at form implicit unit end entry bytes at ≡ Ok read → at ≤ read.1 }
-    ensures inside { (form : ℕ) (implicit : ℤ) (unit end entry : ℕ) (bytes : List ℕ) (at : ℕ) (read : Value × ℕ) → value_at form implicit unit end entry bytes at ≡ Ok read → at ≤ end → read.1 ≤ end }
+    ensures after { (form : ℕ) (implicit : ℤ) (unit end entry : ℕ) (bytes : List ℕ) (at : ℕ) (read : Value × ℕ)
+        → value_at form implicit unit end entry bytes at ≡ Ok read → at ≤ read.1 }
+    ensures inside { (form : ℕ) (implicit : ℤ) (unit end entry : ℕ) (bytes : List ℕ) (at : ℕ) (read : Value × ℕ)
+        → value_at form implicit unit end entry bytes at ≡ Ok read → at ≤ end → read.1 ≤ end }
 {}
 
 /// `DW_FORM_ref_addr` is the offset in `.debug_info` itself. The other references count from the start of their unit, whose offset

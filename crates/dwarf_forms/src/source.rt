@@ -98,7 +98,8 @@ impl<'a> Source<'a> {
     ) -> Result<(Value, usize), Fault>
         requires some { 0 < size }
         requires few { size ≤ 8 }
-        ensures read { result ≡ spelled (fixed size meaning) (pos 0) self.now.unit_start self.now.entry self.now.unit.now at }
+        ensures read { result ≡ spelled (fixed size meaning)
+            (pos 0) self.now.unit_start self.now.entry self.now.unit.now at }
         ensures after { IfOk result (λ r. at ≤ r.1) }
         ensures inside { IfOk result (λ r. r.1 ≤ length self.now.unit.now) }
     {
@@ -110,7 +111,8 @@ impl<'a> Source<'a> {
 
     // An unsigned LEB128 number.
     pub(crate) fn uleb(&self, meaning: Meaning, at: usize) -> Result<(Value, usize), Fault>
-        ensures read { result ≡ spelled (of_uleb meaning) (pos 0) self.now.unit_start self.now.entry self.now.unit.now at }
+        ensures read { result ≡ spelled (of_uleb meaning)
+            (pos 0) self.now.unit_start self.now.entry self.now.unit.now at }
         ensures after { IfOk result (λ r. at ≤ r.1) }
         ensures inside { IfOk result (λ r. r.1 ≤ length self.now.unit.now) }
     {
@@ -169,7 +171,8 @@ impl<'a> Source<'a> {
     pub(crate) fn block(&self, size: usize, at: usize) -> Result<(Value, usize), Fault>
         requires some { 0 < size }
         requires few { size ≤ 8 }
-        ensures read { result ≡ spelled (block_behind size) (pos 0) self.now.unit_start self.now.entry self.now.unit.now at }
+        ensures read { result ≡ spelled (block_behind size)
+            (pos 0) self.now.unit_start self.now.entry self.now.unit.now at }
         ensures after { IfOk result (λ r. at ≤ r.1) }
         ensures inside { IfOk result (λ r. r.1 ≤ length self.now.unit.now) }
     {
@@ -181,7 +184,8 @@ impl<'a> Source<'a> {
 
     // A block after its length as an unsigned LEB128.
     pub(crate) fn uleb_block(&self, at: usize) -> Result<(Value, usize), Fault>
-        ensures read { result ≡ spelled block_behind_uleb (pos 0) self.now.unit_start self.now.entry self.now.unit.now at }
+        ensures read { result ≡ spelled block_behind_uleb
+            (pos 0) self.now.unit_start self.now.entry self.now.unit.now at }
         ensures after { IfOk result (λ r. at ≤ r.1) }
         ensures inside { IfOk result (λ r. r.1 ≤ length self.now.unit.now) }
     {

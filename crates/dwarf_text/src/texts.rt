@@ -39,7 +39,9 @@ pub fn text<'a>(
     sections: &Sections<'a>,
     entry: DebugInfoOffset,
 ) -> Result<&'a [u8], Fault>
-    ensures { result_map_both (λ t. t.now) (λ f. f) result ≡ text_of sections.now.info.now sections.now.str.now sections.now.line_str.now sections.now.str_offsets.now bases.now.str_offsets entry value.now }
+    ensures { result_map_both (λ t. t.now) (λ f. f) result
+        ≡ text_of sections.now.info.now sections.now.str.now sections.now.line_str.now
+        sections.now.str_offsets.now bases.now.str_offsets entry value.now }
 {
     match *value {
         Value::Inline { from } => text_in(sections.info, from, entry),
@@ -91,7 +93,8 @@ pub fn text_fault(
     entry: DebugInfoOffset,
 ) -> Option<Fault>
     requires { TextsEnd sections.now.str.now str_end }
-    ensures { result ≡ spec.fault_of (text_of sections.now.info.now sections.now.str.now sections.now.line_str.now sections.now.str_offsets.now bases.now.str_offsets entry value.now) }
+    ensures { result ≡ spec.fault_of (text_of sections.now.info.now sections.now.str.now
+        sections.now.line_str.now sections.now.str_offsets.now bases.now.str_offsets entry value.now) }
 {
     match *value {
         Value::StrOffset(place) => fault_before(str_end, place.get(), entry),

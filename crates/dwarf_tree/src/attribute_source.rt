@@ -70,7 +70,8 @@ pub(crate) fn names_of(specs: &[Spec]) -> u64
 fn value_in(asked: &AttributeSource<'_>, kept: EntryHead, spec: Spec, at: usize) -> Option<Value>
     requires inside { asked.now.head.now.end ≤ length asked.now.info.now }
     requires texts { All (IsLongText asked.now.info.now) asked.now.long_texts.now }
-    ensures { result ≡ value_read (value_at spec.form spec.implicit asked.now.head.now.offset asked.now.head.now.end kept.offset asked.now.info.now at) }
+    ensures { result ≡ value_read (value_at spec.form spec.implicit asked.now.head.now.offset
+        asked.now.head.now.end kept.offset asked.now.info.now at) }
 {
     let end = asked.head.end.get();
     if spec.form == DW_FORM_string {
@@ -99,7 +100,8 @@ fn end_in(
 ) -> Result<usize, Fault>
     requires inside { asked.now.head.now.end ≤ length asked.now.info.now }
     requires texts { All (IsLongText asked.now.info.now) asked.now.long_texts.now }
-    ensures { result ≡ place_after (value_at spec.form spec.implicit asked.now.head.now.offset asked.now.head.now.end kept.offset asked.now.info.now at) }
+    ensures { result ≡ place_after (value_at spec.form spec.implicit asked.now.head.now.offset
+        asked.now.head.now.end kept.offset asked.now.info.now at) }
 {
     let end = asked.head.end.get();
     if spec.form == DW_FORM_string {
@@ -236,7 +238,8 @@ fn short_number(asked: &AttributeSource<'_>, name: u64, form: u64) -> Option<u32
     requires inside { asked.now.head.now.end ≤ length asked.now.info.now }
     requires shape { IsLayout asked.now.abbrevs.now asked.now.slots.now asked.now.shape.now }
     requires told { form ≢ 0 }
-    ensures { IfSome result (SpellsNumber asked.now.info.now asked.now.abbrevs.now asked.now.head.now (keeping.shaped asked.now.shape.now asked.now.stored) name form) }
+    ensures { IfSome result (SpellsNumber asked.now.info.now asked.now.abbrevs.now asked.now.head.now
+        (keeping.shaped asked.now.shape.now asked.now.stored) name form) }
 {
     let end = asked.head.end.get();
     let unit = &asked.info[..end as usize];

@@ -70,7 +70,8 @@ pub(crate) fn push_slots(
     slots: &mut Vec<Slot>,
 ) -> Result<(), NoMemory>
     requires { length slots.old.items < 2 ^ 32 }
-    ensures lead { OnOk result (AreSlots abbrevs.now specs_from slots.new.items (length slots.old.items) (length slots.new.items)) }
+    ensures lead { OnOk result (AreSlots abbrevs.now specs_from slots.new.items (length slots.old.items)
+        (length slots.new.items)) }
     ensures extended { Extends slots.old.items slots.new.items }
     ensures few { length slots.new.items < 2 ^ 32 }
     ensures named { IfErr result (λ e. e ≡ Allocation) }

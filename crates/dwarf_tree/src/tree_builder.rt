@@ -37,7 +37,8 @@ fn store_first(
     requires say { All (IsLayout abbrevs.now shapes.old.slots) shapes.old.shapes }
     requires offset { entry.now.offset < 2 ^ 32 }
     requires specs { entry.now.specs_from < 2 ^ 32 }
-    ensures stored { OnOk result (IsStored abbrevs.now unit entry.now shapes.old.shapes shapes.new entries.old.items entries.new.items) }
+    ensures stored { OnOk result (IsStored abbrevs.now unit entry.now shapes.old.shapes shapes.new
+        entries.old.items entries.new.items) }
     ensures extended { Extends shapes.old.slots shapes.new.slots }
     ensures same_shapes { OnErr result (shapes.new.shapes ≡ shapes.old.shapes) }
     ensures same_entries { OnErr result (entries.new.items ≡ entries.old.items) }
@@ -62,7 +63,8 @@ fn store(
     requires say { All (IsLayout abbrevs.now shapes.old.slots) shapes.old.shapes }
     requires offset { entry.now.offset < 2 ^ 32 }
     requires specs { entry.now.specs_from < 2 ^ 32 }
-    ensures stored { OnOk result (IsStored abbrevs.now unit entry.now shapes.old.shapes shapes.new entries.old.items entries.new.items) }
+    ensures stored { OnOk result (IsStored abbrevs.now unit entry.now shapes.old.shapes shapes.new
+        entries.old.items entries.new.items) }
     ensures extended { Extends shapes.old.slots shapes.new.slots }
     ensures same_shapes { OnErr result (shapes.new.shapes ≡ shapes.old.shapes) }
     ensures same_entries { OnErr result (entries.new.items ≡ entries.old.items) }

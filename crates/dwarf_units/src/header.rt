@@ -42,7 +42,8 @@ fn header_size_in(info: &[u8], at: usize) -> u64
 // Whether a unit inside the section is too short for its header.
 fn is_short(info: &[u8], at: usize, rest: u64) -> bool
     requires { at + length_size + rest ≤ length info.now }
-    ensures { result ≡ (nat_lt (at + length_size + rest) (at + header_size_4) || nat_lt (at + length_size + rest) (at + header_size_at info.now at)) }
+    ensures { result ≡ (nat_lt (at + length_size + rest) (at + header_size_4)
+        || nat_lt (at + length_size + rest) (at + header_size_at info.now at)) }
 {
     if LENGTH_SIZE + rest < HEADER_SIZE_4 {
         return true;

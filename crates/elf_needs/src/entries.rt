@@ -59,12 +59,15 @@ fn keep_each<'a>(
     requires of_need { IsNeed need.now table.now strings.now }
     requires small { length table.now ≤ input_limit }
     requires sound { budget.old.taken ≤ budget.old.most }
-    ensures judged { Judges result (fault_if (has_bad_entry table.now strings.now need.now.number) kind.VersionNeed need.now.number) }
+    ensures judged { Judges result (fault_if (has_bad_entry table.now strings.now need.now.number)
+        kind.VersionNeed need.now.number) }
     ensures kept { OnOk result ((q : ℕ) → need_under by_index.new q
         ≡ option_or (need_under by_index.old q) (need_among (entries_of_need table.now strings.now need.now.number) q)) }
     ensures taken { OnOk result (budget.new
         ≡ with_taken budget.old (entries_cost table.now strings.now need.now.number (entry_count table.now need.now.number))) }
-    ensures within { OnOk result (budget.old.taken + entries_cost table.now strings.now need.now.number (entry_count table.now need.now.number) ≤ budget.old.most) }
+    ensures within { OnOk result (budget.old.taken
+        + entries_cost table.now strings.now need.now.number (entry_count table.now need.now.number)
+        ≤ budget.old.most) }
     ensures past { IfErr result (λ e. OnPast e (λ l. (l ≡ budget.old.limit)
         × (budget.old.most < budget.old.taken + entries_cost table.now strings.now need.now.number (entry_count table.now need.now.number)))) }
 {
@@ -91,11 +94,13 @@ fn keep_entries<'a>(
 ) -> Result<(), Refusal>
     requires of_need { IsNeed need.now table.now strings.now }
     requires small { length table.now ≤ input_limit }
-    ensures judged { Judges result (fault_if (has_bad_entry table.now strings.now need.now.number) kind.VersionNeed need.now.number) }
+    ensures judged { Judges result (fault_if (has_bad_entry table.now strings.now need.now.number)
+        kind.VersionNeed need.now.number) }
     ensures kept { OnOk result ((q : ℕ) → need_under by_index.new q
         ≡ option_or (need_under by_index.old q) (need_among (entries_of_need table.now strings.now need.now.number) q)) }
     ensures taken { OnOk result (budget.new ≡ with_taken budget.old (need_cost table.now strings.now need.now.number)) }
-    ensures within { OnOk result (budget.old.taken + need_cost table.now strings.now need.now.number ≤ budget.old.most) }
+    ensures within { OnOk result (budget.old.taken + need_cost table.now strings.now need.now.number
+        ≤ budget.old.most) }
     ensures past { IfErr result (λ e. OnPast e (λ l. (l ≡ budget.old.limit)
         × (budget.old.most < budget.old.taken + need_cost table.now strings.now need.now.number))) }
 {

@@ -44,7 +44,8 @@ fn on_fault(
     fault: Fault,
     bytes: &[u8],
 ) -> Result<Vec<String>, NoMemory>
-    ensures tells { IfOk result (λ notes. Tells (outcomes.Unreadable which fault) (map plain_file files.now) (map string_bytes notes.items)) }
+    ensures tells { IfOk result (λ notes. Tells (outcomes.Unreadable which fault) (map plain_file files.now)
+        (map string_bytes notes.items)) }
     ensures lines { IfOk result (λ notes. All (λ note. IsTrue (is_one_line note)) (map string_bytes notes.items)) }
 {
     match name_of(files, which) {
@@ -60,7 +61,8 @@ fn on_failure(
     which: Input,
     reason: &str,
 ) -> Result<Vec<String>, NoMemory>
-    ensures tells { IfOk result (λ notes. Tells (outcomes.ReadFault which) (map plain_file files.now) (map string_bytes notes.items)) }
+    ensures tells { IfOk result (λ notes. Tells (outcomes.ReadFault which) (map plain_file files.now)
+        (map string_bytes notes.items)) }
     ensures lines { IfOk result (λ notes. All (λ note. IsTrue (is_one_line note)) (map string_bytes notes.items)) }
 {
     match name_of(files, which) {
@@ -130,7 +132,8 @@ fn on_remark(
     files: &[File<'_>],
     remark: Option<Remark>,
 ) -> Result<Vec<String>, NoMemory>
-    ensures tells { IfOk result (λ notes. TellsCompared remark (map plain_file files.now) (map string_bytes notes.items)) }
+    ensures tells { IfOk result (λ notes. TellsCompared remark (map plain_file files.now)
+        (map string_bytes notes.items)) }
     ensures lines { IfOk result (λ notes. All (λ note. IsTrue (is_one_line note)) (map string_bytes notes.items)) }
 {
     match remark {
@@ -141,7 +144,8 @@ fn on_remark(
 
 // The notes on two compared libraries.
 fn on_both(alloc: Global, files: &[File<'_>], remark: Remark) -> Result<Vec<String>, NoMemory>
-    ensures tells { IfOk result (λ notes. TellsCompared (Some remark) (map plain_file files.now) (map string_bytes notes.items)) }
+    ensures tells { IfOk result (λ notes. TellsCompared (Some remark) (map plain_file files.now)
+        (map string_bytes notes.items)) }
     ensures lines { IfOk result (λ notes. All (λ note. IsTrue (is_one_line note)) (map string_bytes notes.items)) }
 {
     let Some(old) = name_of(files, Input::Old) else {
@@ -225,7 +229,8 @@ fn on_verdict(
     remark: Option<Remark>,
     files: &[File<'_>],
 ) -> Result<Vec<String>, NoMemory>
-    ensures tells { IfOk result (λ notes. TellsJudged verdict remark (map plain_file files.now) (map string_bytes notes.items)) }
+    ensures tells { IfOk result (λ notes. TellsJudged verdict remark (map plain_file files.now)
+        (map string_bytes notes.items)) }
     ensures lines { IfOk result (λ notes. All (λ note. IsTrue (is_one_line note)) (map string_bytes notes.items)) }
 {
     match verdict {

@@ -117,7 +117,8 @@ fn sentence_of(
     which: Input,
     role: &str,
 ) -> Result<Option<String>, NoMemory>
-    ensures tells { IfOk result (λ found. TellsOf (map plain_file files.now) certificate which role.now (option_map string_bytes found)) }
+    ensures tells { IfOk result (λ found. TellsOf (map plain_file files.now) certificate which role.now
+        (option_map string_bytes found)) }
     ensures line { IfOk result (λ found. IfSome found (λ text. IsTrue (is_one_line (string_bytes text)))) }
 {
     let Some(name) = name_of(files, certificate) else {
@@ -172,7 +173,8 @@ pub fn other_input_sentence(
     files: &[File<'_>],
     answer: &[u8],
 ) -> Result<Option<String>, NoMemory>
-    ensures tells { IfOk result (λ found. TellsOtherInput (map plain_file files.now) (spec.other_input answer.now) (option_map string_bytes found)) }
+    ensures tells { IfOk result (λ found. TellsOtherInput (map plain_file files.now)
+        (spec.other_input answer.now) (option_map string_bytes found)) }
     ensures line { IfOk result (λ found. IfSome found (λ text. IsTrue (is_one_line (string_bytes text)))) }
 {
     match other_input(answer) {

@@ -29,7 +29,8 @@ fn tests_of(old: &Library<OldIx>, names: &[Label]) -> usize
 
 // Whether a section matches an export.
 fn holds_of_exports(ready: &mut ReadySection, soname: Option<&[u8]>, exports: &[Export]) -> bool
-    ensures holds { result ≡ list_any (holds_of_export ready.old (option_copied soname.entry)) (plain_exports exports.now) }
+    ensures holds { result ≡ list_any (holds_of_export ready.old (option_copied soname.entry))
+        (plain_exports exports.now) }
     ensures same { ready.new ≡ ready.old }
 {
     for export in exports {
@@ -51,7 +52,8 @@ fn holds_of_name(ready: &mut ReadySection, soname: Option<&[u8]>, label: &Label)
 
 // Whether a section matches one of these names.
 fn holds_of_names(ready: &mut ReadySection, soname: Option<&[u8]>, names: &[Label]) -> bool
-    ensures holds { result ≡ list_any (holds_of_label ready.old (option_copied soname.entry)) (map plain_label names.now) }
+    ensures holds { result ≡ list_any (holds_of_label ready.old (option_copied soname.entry))
+        (map plain_label names.now) }
     ensures same { ready.new ≡ ready.old }
 {
     for label in names {

@@ -38,7 +38,8 @@ fn push_once<'x>(
 ) -> Result<(), NoMemory>
     requires { AreSeen seen.old (map plain_label names.old.items) }
     ensures seen { OnOk result (AreSeen seen.new (map plain_label names.new.items)) }
-    ensures alike { OnOk result (AreAlike (map plain_label names.new.items) (map plain_label names.old.items ++ plain_label label.now ∷ [])) }
+    ensures alike { OnOk result (AreAlike (map plain_label names.new.items)
+        (map plain_label names.old.items ++ plain_label label.now ∷ [])) }
     ensures few { OnOk result (length names.new.items ≤ length names.old.items + 1) }
     ensures named { IfErr result (λ e. e ≡ Allocation) }
 {
@@ -58,7 +59,8 @@ fn push_names<'x>(
 ) -> Result<(), NoMemory>
     requires { AreSeen seen.old (map plain_label names.old.items) }
     ensures seen { OnOk result (AreSeen seen.new (map plain_label names.new.items)) }
-    ensures alike { OnOk result (AreAlike (map plain_label names.new.items) (map plain_label names.old.items ++ map plain_label labels.now)) }
+    ensures alike { OnOk result (AreAlike (map plain_label names.new.items)
+        (map plain_label names.old.items ++ map plain_label labels.now)) }
     ensures few { OnOk result (length names.new.items ≤ length names.old.items + length labels.now) }
     ensures named { IfErr result (λ e. e ≡ Allocation) }
 {

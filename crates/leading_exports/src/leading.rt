@@ -98,7 +98,9 @@ pub fn exports_to(
     requires walk { IsWalk (scope_of walk.now.ground.now) walk.now.visits.now walk.now.numbers.now }
     requires arrows { arrows.now ≡ all_arrows (scope_of walk.now.ground.now) walk.now.visits.now walk.now.numbers.now }
     ensures leading { IfOk result (AreLeading (scope_of walk.now.ground.now) pair.0 pair.1) }
-    ensures least { OnOk result (effort.new.left + least_effort (length walk.now.visits.now) (length arrows.now) (length walk.now.ground.now.roots.now) ≤ effort.old.left) }
+    ensures least { OnOk result (effort.new.left
+        + least_effort (length walk.now.visits.now) (length arrows.now) (length walk.now.ground.now.roots.now)
+        ≤ effort.old.left) }
     ensures spent { effort.new.left ≤ effort.old.left }
     ensures named { IfErr result (λ e. (e ≡ Allocation) ⊎ (e ≡ Past effort.old.limit)) }
     ensures limit { effort.new.limit ≡ effort.old.limit }

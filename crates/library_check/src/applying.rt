@@ -190,8 +190,10 @@ fn judge_used(
     listeners: Vec<Box<dyn Listener>>,
 ) -> Result<AppJudged, NoMemory>
     requires { All (λ listener. heard listener ≡ []) listeners.items }
-    ensures said { IfOk result (IsSaidOfUsed (map voice listeners.items) (sides_used (plain_imports imports.now) inputs.now.pair.old inputs.now.pair.new inputs.now.rules)) }
-    ensures past { IfErr result (λ e. OnLimit e (UsedPass (plain_imports imports.now) inputs.now.pair.old inputs.now.pair.new inputs.now.rules)) }
+    ensures said { IfOk result (IsSaidOfUsed (map voice listeners.items)
+        (sides_used (plain_imports imports.now) inputs.now.pair.old inputs.now.pair.new inputs.now.rules)) }
+    ensures past { IfErr result (λ e. OnLimit e
+        (UsedPass (plain_imports imports.now) inputs.now.pair.old inputs.now.pair.new inputs.now.rules)) }
 {
     let old = &inputs.pair.old;
     let new = &inputs.pair.new;
@@ -215,11 +217,16 @@ pub fn app(
     requires old_short { length files.now.old.now ≤ input_limit }
     requires new_short { length files.now.new.now ≤ input_limit }
     requires unheard { All (λ listener. heard listener ≡ []) listeners.items }
-    ensures readable { OnOk result (AreReadableFor files.now.app.now files.now.old.now files.now.new.now files.now.rules.now) }
-    ensures judged { IfOk result (λ said. IsAppJudged (map voice listeners.items) files.now.app.now files.now.old.now files.now.new.now files.now.rules.now said.judged) }
+    ensures readable { OnOk result (AreReadableFor files.now.app.now files.now.old.now files.now.new.now
+        files.now.rules.now) }
+    ensures judged { IfOk result (λ said. IsAppJudged
+        (map voice listeners.items) files.now.app.now files.now.old.now files.now.new.now files.now.rules.now
+        said.judged) }
     ensures remark { IfOk result (λ said. said.remark ≡ remark_on files.now.old.now files.now.new.now) }
-    ensures not_judged { IfErr result (IsNotJudged files.now.app.now files.now.old.now files.now.new.now files.now.rules.now) }
-    ensures past { IfErr result (λ u. OnNotJudged u (AppPasses files.now.app.now files.now.old.now files.now.new.now files.now.rules.now)) }
+    ensures not_judged { IfErr result (IsNotJudged files.now.app.now files.now.old.now files.now.new.now
+        files.now.rules.now) }
+    ensures past { IfErr result (λ u. OnNotJudged u
+        (AppPasses files.now.app.now files.now.old.now files.now.new.now files.now.rules.now)) }
 {
     let imports = match read_imports(alloc, files.app) {
         Ok(imports) => imports,

@@ -234,7 +234,8 @@ pub fn check(
     requires new_short { length new.now ≤ input_limit }
     requires unheard { All (λ listener. heard listener ≡ []) listeners.items }
     ensures readable { OnOk result (AreReadable old.now new.now rules.now) }
-    ensures judged { IfOk result (λ said. IsChecked (map voice listeners.items) old.now new.now rules.now said.checked) }
+    ensures judged { IfOk result (λ said. IsChecked
+        (map voice listeners.items) old.now new.now rules.now said.checked) }
     ensures relation { IfOk result (λ said. PrintsSuchRelation old.now new.now rules.now said.checked) }
     ensures remark { IfOk result (λ said. said.remark ≡ remark_on old.now new.now) }
     ensures unchecked { IfErr result (IsUnchecked old.now new.now rules.now) }

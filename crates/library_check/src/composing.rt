@@ -175,7 +175,8 @@ fn read_libraries<'a>(alloc: Global, files: &ChainFiles<'a>) -> Result<Libraries
     ensures middle_old { IfOk result (λ libraries. libraries.middle_old ≡ library_of files.now.middle.now) }
     ensures last { IfOk result (λ libraries. libraries.last ≡ library_of files.now.last.now) }
     ensures unread { IfErr result (IsUncomposed (plain_files files.now)) }
-    ensures past { IfErr result (λ u. OnUncomposed u (LibrariesPass files.now.first.now files.now.middle.now files.now.last.now)) }
+    ensures past { IfErr result (λ u. OnUncomposed u
+        (LibrariesPass files.now.first.now files.now.middle.now files.now.last.now)) }
 {
     let first = match read_first(alloc, files) {
         Ok(first) => first,
@@ -287,8 +288,10 @@ fn settle_unmarked(
 
 // States that accepted certificates make a chain of the libraries. The function does nothing.
 fn make_a_chain(libraries: &Libraries, certificates: &Certificates)
-    requires { AreAccepted (joint libraries.now.first libraries.now.middle_new libraries.now.last certificates.now.one certificates.now.other) }
-    ensures { IsChain (joint libraries.now.first libraries.now.middle_new libraries.now.last certificates.now.one certificates.now.other) }
+    requires { AreAccepted (joint libraries.now.first libraries.now.middle_new libraries.now.last
+        certificates.now.one certificates.now.other) }
+    ensures { IsChain (joint libraries.now.first libraries.now.middle_new libraries.now.last
+        certificates.now.one certificates.now.other) }
 {
     marks_of_nothing_are_alike();
     what_is_accepted_keeps_all();
@@ -309,9 +312,13 @@ fn join_accepted(
     certificates: &Certificates,
 ) -> Result<Composed, NoMemory>
     requires copied { libraries.now.middle_old ≡ libraries.now.middle_new }
-    requires accepted { AreAccepted (joint libraries.now.first libraries.now.middle_new libraries.now.last certificates.now.one certificates.now.other) }
-    ensures joined { IfOk result (IsJoined (joint libraries.now.first libraries.now.middle_new libraries.now.last certificates.now.one certificates.now.other)) }
-    ensures past { IfErr result (λ e. OnLimit e (JoinPasses (joint libraries.now.first libraries.now.middle_new libraries.now.last certificates.now.one certificates.now.other))) }
+    requires accepted { AreAccepted (joint libraries.now.first libraries.now.middle_new libraries.now.last
+        certificates.now.one certificates.now.other) }
+    ensures joined { IfOk result (IsJoined (joint libraries.now.first libraries.now.middle_new
+        libraries.now.last certificates.now.one certificates.now.other)) }
+    ensures past { IfErr result (λ e. OnLimit e
+        (JoinPasses (joint libraries.now.first libraries.now.middle_new libraries.now.last certificates.now.one
+        certificates.now.other))) }
 {
     marks_of_nothing_are_alike();
     what_is_accepted_keeps_all();
@@ -338,9 +345,14 @@ fn join_second(
     certificates: &Certificates,
 ) -> Result<Composed, NoMemory>
     requires copied { libraries.now.middle_old ≡ libraries.now.middle_new }
-    requires accepted { IsAccepted (first_case (joint libraries.now.first libraries.now.middle_new libraries.now.last certificates.now.one certificates.now.other)) }
-    ensures joined { IfOk result (IsJoined (joint libraries.now.first libraries.now.middle_new libraries.now.last certificates.now.one certificates.now.other)) }
-    ensures past { IfErr result (λ e. OnLimit e (SecondPasses (joint libraries.now.first libraries.now.middle_new libraries.now.last certificates.now.one certificates.now.other))) }
+    requires accepted { IsAccepted (first_case
+        (joint libraries.now.first libraries.now.middle_new libraries.now.last certificates.now.one
+        certificates.now.other)) }
+    ensures joined { IfOk result (IsJoined (joint libraries.now.first libraries.now.middle_new
+        libraries.now.last certificates.now.one certificates.now.other)) }
+    ensures past { IfErr result (λ e. OnLimit e
+        (SecondPasses (joint libraries.now.first libraries.now.middle_new libraries.now.last
+        certificates.now.one certificates.now.other))) }
 {
     match settle_unmarked(
         alloc,
@@ -361,8 +373,11 @@ fn join(
     certificates: &Certificates,
 ) -> Result<Composed, NoMemory>
     requires { libraries.now.middle_old ≡ libraries.now.middle_new }
-    ensures joined { IfOk result (IsJoined (joint libraries.now.first libraries.now.middle_new libraries.now.last certificates.now.one certificates.now.other)) }
-    ensures past { IfErr result (λ e. OnLimit e (ChainPasses (joint libraries.now.first libraries.now.middle_new libraries.now.last certificates.now.one certificates.now.other))) }
+    ensures joined { IfOk result (IsJoined (joint libraries.now.first libraries.now.middle_new
+        libraries.now.last certificates.now.one certificates.now.other)) }
+    ensures past { IfErr result (λ e. OnLimit e
+        (ChainPasses (joint libraries.now.first libraries.now.middle_new libraries.now.last certificates.now.one
+        certificates.now.other))) }
 {
     match settle_unmarked(
         alloc,

@@ -68,7 +68,8 @@ fn settle_migrated(
     cert: &Cert1,
 ) -> Result<Migrated, NoMemory>
     ensures settled { IfOk result (IsMigration (ruled old.now new.now rules.now) cert.now) }
-    ensures past { IfErr result (λ e. OnLimit e (SettlementPasses old.now new.now rules.now (certs.migrated cert.now))) }
+    ensures past { IfErr result (λ e. OnLimit e
+        (SettlementPasses old.now new.now rules.now (certs.migrated cert.now))) }
 {
     let migrated = second_version(alloc, cert)?;
     match settle(alloc, old, new, rules, &migrated)? {

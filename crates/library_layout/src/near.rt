@@ -105,7 +105,8 @@ fn nearest<'a, Ix: Index>(
     tag: &[u8],
     tags: &[&[u8]],
 ) -> Result<Option<&'a [u8]>, NoMemory>
-    ensures new { IfOk result (λ found. IfSome found (λ near. IsLeftOut graph.now (map (λ t. t.now) tags.now) near.now)) }
+    ensures new { IfOk result (λ found. IfSome found
+        (λ near. IsLeftOut graph.now (map (λ t. t.now) tags.now) near.now)) }
     ensures nearest { IfOk result (λ found. IsNearestBeside graph.now tag.now (map (λ t. t.now) tags.now)
         (option_copied found)) }
 {

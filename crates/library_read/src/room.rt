@@ -31,7 +31,8 @@ fn take_view<Ix: Index>(
     requires sound_letters { letters.old.taken ≤ letters.old.most }
     ensures parts { OnOk result (Takes parts.old parts.new (length view.now.parts)) }
     ensures letters { OnOk result (Takes letters.old letters.new (view_letters view.now)) }
-    ensures past { IfErr result (λ e. OnLimit e (PassesEither parts.old (length view.now.parts) letters.old (view_letters view.now))) }
+    ensures past { IfErr result (λ e. OnLimit e
+        (PassesEither parts.old (length view.now.parts) letters.old (view_letters view.now))) }
 {
     let items = view.parts.as_slice();
     parts.take(items.len())?;

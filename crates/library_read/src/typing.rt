@@ -154,7 +154,8 @@ fn types_in<'a, Ix: Index>(
     bytes: usize,
 ) -> Result<Typed<'a, Ix>, Refusal>
     requires { bytes < 2 ^ 38 }
-    ensures judged { Judges result (types_fault dwarf.now (exports_spec.roots_among dwarf.now (plain_exports exports.entry.items))) }
+    ensures judged { Judges result (types_fault dwarf.now
+        (exports_spec.roots_among dwarf.now (plain_exports exports.entry.items))) }
     ensures exports { IfOk result (λ typed. plain_exports typed.exports
         ≡ map (exports_spec.typed dwarf.now) (plain_exports exports.entry.items)) }
     ensures graph { IfOk result (λ typed. typed.graph

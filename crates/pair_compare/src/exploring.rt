@@ -33,11 +33,14 @@ pub fn explore_types<'x, 'c, 'o, 'n, L: Ledger>(
     requires old_nodes { old_classes.now.nodes ≡ pair.now.old.now.graph }
     requires new_nodes { new_classes.now.nodes ≡ pair.now.new.now.graph }
     ensures sound { IsSound (scope_of (sides_of pair.now) old_classes.now new_classes.now) }
-    ensures explored { IfOk result (λ e. IsExploration (scope_of (sides_of pair.now) old_classes.now new_classes.now) e.visits e.breaks) }
+    ensures explored { IfOk result (λ e. IsExploration
+        (scope_of (sides_of pair.now) old_classes.now new_classes.now) e.visits e.breaks) }
     ensures cost { IfOk result (λ e. steps.new ≤ steps.old + length e.visits) }
     ensures bound { steps.new ≤ steps.old + most_steps (sides_of pair.now) }
-    ensures within { IfOk result (λ e. AreWithin (scope_of (sides_of pair.now) old_classes.now new_classes.now) (map seen e.visits)) }
-    ensures past { IfErr result (λ e. OnLimit e (ExplorationPasses (scope_of (sides_of pair.now) old_classes.now new_classes.now))) }
+    ensures within { IfOk result (λ e. AreWithin (scope_of (sides_of pair.now) old_classes.now new_classes.now)
+        (map seen e.visits)) }
+    ensures past { IfErr result (λ e. OnLimit e
+        (ExplorationPasses (scope_of (sides_of pair.now) old_classes.now new_classes.now))) }
 {
     typed_pairs_can_be_explored();
     old_classes.known();

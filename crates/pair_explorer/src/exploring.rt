@@ -48,7 +48,8 @@ impl Work {
         requires broken { self.old.broken.limit ≡ Breaks }
         ensures parts { OnOk result (Takes self.old.parts self.new.parts (pair_weight old.now new.now)) }
         ensures broken { OnOk result (Takes self.old.broken self.new.broken breaks) }
-        ensures past { IfErr result (λ e. OnLimit e (WorkPasses self.old.parts self.old.broken (pair_weight old.now new.now) breaks)) }
+        ensures past { IfErr result (λ e. OnLimit e
+            (WorkPasses self.old.parts self.old.broken (pair_weight old.now new.now) breaks)) }
     {
         take_parts(&mut self.parts, old, new)?;
         self.broken.take(breaks)?;
@@ -125,10 +126,15 @@ fn expand<L: Ledger>(
     ensures breaks { OnOk result (explored.new.breaks
         ≡ explored.old.breaks ++ visit_breaks (scope_of ground.now).task number visit.now) }
     ensures cost { steps.new ≡ steps.old + (if is_compared (scope_of ground.now).task visit.now then 1 else 0) }
-    ensures counted { OnOk result (IsCounted (scope_of ground.now) explored.new.reached.visits explored.new.reached.pairs) }
-    ensures parts { OnOk result (Takes explored.old.work.parts explored.new.work.parts (weight_at (scope_of ground.now).task (seen visit.now))) }
-    ensures broken { OnOk result (Takes explored.old.work.broken explored.new.work.broken (break_count_at (scope_of ground.now).task (seen visit.now))) }
-    ensures past { IfErr result (λ e. OnLimit e (ExpansionPasses (scope_of ground.now) explored.old.reached.visits number visit.now explored.old.work.parts explored.old.work.broken)) }
+    ensures counted { OnOk result (IsCounted (scope_of ground.now) explored.new.reached.visits
+        explored.new.reached.pairs) }
+    ensures parts { OnOk result (Takes explored.old.work.parts explored.new.work.parts
+        (weight_at (scope_of ground.now).task (seen visit.now))) }
+    ensures broken { OnOk result (Takes explored.old.work.broken explored.new.work.broken
+        (break_count_at (scope_of ground.now).task (seen visit.now))) }
+    ensures past { IfErr result (λ e. OnLimit e
+        (ExpansionPasses (scope_of ground.now) explored.old.reached.visits number visit.now
+        explored.old.work.parts explored.old.work.broken)) }
 {
     if is_marked(ground, visit.old, visit.way) {
         return Ok(());

@@ -78,7 +78,9 @@ pub(crate) fn add_roots(ground: &GraphPair, reached: &mut Reached) -> Result<(),
     ensures visits { OnOk result (reached.new.visits
         ≡ entered (adding.root_visit (scope_of ground.now)) (length ground.now.roots.now) reached.old.visits) }
     ensures counted { OnOk result (IsCounted (scope_of ground.now) reached.new.visits reached.new.pairs) }
-    ensures past { IfErr result (λ e. OnLimit e (VisitsPass (scope_of ground.now) (entered (adding.root_visit (scope_of ground.now)) (length ground.now.roots.now) reached.old.visits))) }
+    ensures past { IfErr result (λ e. OnLimit e
+        (VisitsPass (scope_of ground.now) (entered (adding.root_visit (scope_of ground.now))
+        (length ground.now.roots.now) reached.old.visits))) }
 {
     for k in 0..ground.roots.len() {
         let visit = root_visit(ground, k);
@@ -149,7 +151,10 @@ pub(crate) fn add_partners(
     ensures visits { OnOk result (reached.new.visits
         ≡ entered (adding.next_visit (scope_of ground.now) number (seen visit.now)) (length (view_at ground.now.old.now visit.now.old).parts) reached.old.visits) }
     ensures counted { OnOk result (IsCounted (scope_of ground.now) reached.new.visits reached.new.pairs) }
-    ensures past { IfErr result (λ e. OnLimit e (VisitsPass (scope_of ground.now) (entered (adding.next_visit (scope_of ground.now) number (seen visit.now)) (length (view_at ground.now.old.now visit.now.old).parts) reached.old.visits))) }
+    ensures past { IfErr result (λ e. OnLimit e
+        (VisitsPass (scope_of ground.now) (entered
+        (adding.next_visit (scope_of ground.now) number (seen visit.now))
+        (length (view_at ground.now.old.now visit.now.old).parts) reached.old.visits))) }
 {
     for i in 0..parts_len(ground, visit) {
         if let Some(next) = next_visit(ground, number, visit, matches, i) {

@@ -21,7 +21,8 @@ impl Reached {
         requires limit { self.old.pairs.limit ≡ Pairs }
         requires counted { self.old.pairs.taken ≡ length self.old.visits }
         ensures visits { OnOk result (self.new.visits ≡ added self.old.visits visit.now) }
-        ensures pairs { OnOk result (Takes self.old.pairs self.new.pairs (length (added self.old.visits visit.now) - length self.old.visits)) }
+        ensures pairs { OnOk result (Takes self.old.pairs self.new.pairs
+            (length (added self.old.visits visit.now) - length self.old.visits)) }
         ensures past { IfErr result (λ e. OnLimit e (AddPasses self.old.pairs self.old.visits visit.now)) }
     {
         let before = self.visits.len();

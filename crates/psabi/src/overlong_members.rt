@@ -29,7 +29,8 @@ pub fn extent<Ix: Index>(graph: &Graph<Ix>, width: u64, to: Ix) -> u64
 fn own_past<Ix: Index>(graph: &Graph<Ix>, ix: Ix, k: usize) -> bool
     requires inside { Ix.number_of ix < length graph.now }
     requires k { k < length (view_at graph.now (Ix.number_of ix)).parts }
-    ensures { result ≡ spec.own_past graph.now (view_at graph.now (Ix.number_of ix)) (part_at (view_at graph.now (Ix.number_of ix)) k) }
+    ensures { result ≡ spec.own_past graph.now (view_at graph.now (Ix.number_of ix))
+        (part_at (view_at graph.now (Ix.number_of ix)) k) }
 {
     graph.known();
     let view = graph.view(ix);

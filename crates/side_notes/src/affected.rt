@@ -206,7 +206,8 @@ impl NoteRoom {
     fn take_notes(&mut self, row: &TypeRow, exports: &[u32]) -> Result<(), NoMemory>
         ensures ok { OnOk result (self.old.bytes
             ≡ self.new.bytes + sum_by (note_size row.now.library.now row.now.text.now) exports.now) }
-        ensures err { OnErr result (self.old.bytes < sum_by (note_size row.now.library.now row.now.text.now) exports.now) }
+        ensures err { OnErr result (self.old.bytes
+            < sum_by (note_size row.now.library.now row.now.text.now) exports.now) }
         ensures named { IfErr result (λ e. e ≡ Past AffectedExports) }
         ensures steps { self.new.steps ≡ self.old.steps }
     {
@@ -278,10 +279,12 @@ fn push_row<'x, 'c, 'o, 'n>(
     room: &mut NoteRoom,
 ) -> Result<(), NoMemory>
     requires spelled { AreSpelled ground.now.library.now ground.now.walk.now.visits.now }
-    requires walk { IsWalk (scope_of ground.now.walk.now.ground.now) ground.now.walk.now.visits.now ground.now.walk.now.numbers.now }
+    requires walk { IsWalk (scope_of ground.now.walk.now.ground.now) ground.now.walk.now.visits.now
+        ground.now.walk.now.numbers.now }
     requires arrows { ground.now.arrows.now
         ≡ all_arrows (scope_of ground.now.walk.now.ground.now) ground.now.walk.now.visits.now ground.now.walk.now.numbers.now }
-    ensures { OnOk result (AddsRow ground.now.library.now (scope_of ground.now.walk.now.ground.now) ground.now.walk.now.visits.now number notes.old notes.new) }
+    ensures { OnOk result (AddsRow ground.now.library.now
+        (scope_of ground.now.walk.now.ground.now) ground.now.walk.now.visits.now number notes.old notes.new) }
 {
     let (old, new) = pair_at(ground.walk.visits, number);
     let pair = (OldIx::of(old), NewIx::of(new));
@@ -301,10 +304,12 @@ fn rows_of<'x, 'c, 'o, 'n>(
     numbers: &[usize],
 ) -> Result<List<Note>, NoMemory>
     requires spelled { AreSpelled ground.now.library.now ground.now.walk.now.visits.now }
-    requires walk { IsWalk (scope_of ground.now.walk.now.ground.now) ground.now.walk.now.visits.now ground.now.walk.now.numbers.now }
+    requires walk { IsWalk (scope_of ground.now.walk.now.ground.now) ground.now.walk.now.visits.now
+        ground.now.walk.now.numbers.now }
     requires arrows { ground.now.arrows.now
         ≡ all_arrows (scope_of ground.now.walk.now.ground.now) ground.now.walk.now.visits.now ground.now.walk.now.numbers.now }
-    ensures { IfOk result (AreRowNotes ground.now.library.now (scope_of ground.now.walk.now.ground.now) ground.now.walk.now.visits.now numbers.now) }
+    ensures { IfOk result (AreRowNotes ground.now.library.now
+        (scope_of ground.now.walk.now.ground.now) ground.now.walk.now.visits.now numbers.now) }
 {
     let mut room = NoteRoom::beside(ground.library);
     let mut notes = List::new(alloc);
@@ -327,7 +332,8 @@ fn with_arrows<'x, 'c, 'o, 'n>(
     requires spelled { AreSpelled library.now walk.now.visits.now }
     requires walk { IsWalk (scope_of walk.now.ground.now) walk.now.visits.now walk.now.numbers.now }
     requires arrows { arrows.now ≡ all_arrows (scope_of walk.now.ground.now) walk.now.visits.now walk.now.numbers.now }
-    ensures { IfOk result (AreRowNotes library.now (scope_of walk.now.ground.now) walk.now.visits.now (spec.first_visits explored.now.visits explored.now.breaks)) }
+    ensures { IfOk result (AreRowNotes library.now (scope_of walk.now.ground.now) walk.now.visits.now
+        (spec.first_visits explored.now.visits explored.now.breaks)) }
 {
     let rows = first_visits(alloc, explored)?;
     let ground = Ground {
@@ -348,7 +354,8 @@ fn with_walk<'x, 'c, 'o, 'n, L: Ledger>(
 ) -> Result<List<Note>, NoMemory>
     requires spelled { AreSpelled library.now walk.now.visits.now }
     requires walk { IsWalk (scope_of walk.now.ground.now) walk.now.visits.now walk.now.numbers.now }
-    ensures { IfOk result (AreRowNotes library.now (scope_of walk.now.ground.now) walk.now.visits.now (spec.first_visits explored.now.visits explored.now.breaks)) }
+    ensures { IfOk result (AreRowNotes library.now (scope_of walk.now.ground.now) walk.now.visits.now
+        (spec.first_visits explored.now.visits explored.now.breaks)) }
 {
     let arrows = arrows_of(alloc, walk, steps)?;
     with_arrows(alloc, library, walk, arrows.as_slice(), explored)
@@ -365,7 +372,8 @@ fn with_explored<'x, 'c, 'o, 'n, L: Ledger>(
     requires spelled { AreSpelled library.now explored.now.visits }
     requires scope { IsScope (scope_of graphs.now) }
     requires explored { IsExploration (scope_of graphs.now) explored.now.visits explored.now.breaks }
-    ensures { IfOk result (AreRowNotes library.now (scope_of graphs.now) explored.now.visits (spec.first_visits explored.now.visits explored.now.breaks)) }
+    ensures { IfOk result (AreRowNotes library.now (scope_of graphs.now) explored.now.visits
+        (spec.first_visits explored.now.visits explored.now.breaks)) }
 {
     let numbers = numbers_of(alloc, &explored.visits)?;
     let walk = Walk {

@@ -46,7 +46,8 @@ fn put_if_added<'n>(
     export: &Export<'n>,
     place: usize,
 ) -> Result<(), NoMemory>
-    ensures ok { OnOk result (KeepsFirst kin.old (λ (s : List ℕ). is_kin old.now.exports s (plain_export export.now)) place kin.new) }
+    ensures ok { OnOk result (KeepsFirst kin.old
+        (λ (s : List ℕ). is_kin old.now.exports s (plain_export export.now)) place kin.new) }
     ensures named { IfErr result (λ e. e ≡ Allocation) }
 {
     if has_export(old, export) {
@@ -97,7 +98,8 @@ fn first_kin(related: &Related, name: &[u8]) -> Option<usize>
 #[tactic(auto, unfolding(crate::specs::Successors::successor_place))]
 fn place_of(related: &Related, export: &Export) -> Option<usize>
     requires { AreKin related.now.old.now.exports related.now.new.now.exports related.now.kin.now }
-    ensures { result ≡ successor_place related.now.old.now.exports related.now.new.now.exports (plain_export export.now) }
+    ensures { result ≡ successor_place related.now.old.now.exports related.now.new.now.exports
+        (plain_export export.now) }
 {
     match first_named(related.new, export.name) {
         Some(place) => Some(place),
@@ -108,7 +110,10 @@ fn place_of(related: &Related, export: &Export) -> Option<usize>
 // The likely successor of an old export that binds to none.
 fn successor_of<'x, 'n>(related: &Related<'x, '_, 'n>, export: &Export) -> Option<&'x Export<'n>>
     requires { AreKin related.now.old.now.exports related.now.new.now.exports related.now.kin.now }
-    ensures { MatchOption result (successor_in related.now.old.now.exports related.now.new.now.exports (plain_export export.now) ≡ None) (λ found. successor_in related.now.old.now.exports related.now.new.now.exports (plain_export export.now) ≡ Some (plain_export found.now)) }
+    ensures { MatchOption result (successor_in related.now.old.now.exports related.now.new.now.exports
+        (plain_export export.now) ≡ None) (λ found.
+        successor_in related.now.old.now.exports related.now.new.now.exports (plain_export export.now)
+        ≡ Some (plain_export found.now)) }
 {
     match place_of(related, export) {
         None => None,

@@ -159,7 +159,8 @@ fn with_rules<'x, 'a>(
     new: &'x WithDebug<'a, NewIx>,
     rules: &'x Rules,
 ) -> Result<Beside, NoMemory>
-    ensures notes { IfOk result (λ beside. AreByRules old.now.library new.now.library old.now.dwarf new.now.dwarf rules.now beside.notes) }
+    ensures notes { IfOk result (λ beside. AreByRules old.now.library new.now.library old.now.dwarf
+        new.now.dwarf rules.now beside.notes) }
     ensures counts { IfOk result (λ beside. beside.counts
         ≡ Some (counts_by old.now.library new.now.library (marks_spec.marks_of rules.now old.now.library))) }
 {
@@ -181,7 +182,8 @@ fn with_both<'x, 'a>(
     new: &'x WithDebug<'a, NewIx>,
     rules: &'x [u8],
 ) -> Result<Beside, NoMemory>
-    ensures notes { IfOk result (λ beside. AreWithBoth old.now.library new.now.library old.now.dwarf new.now.dwarf rules.now beside.notes) }
+    ensures notes { IfOk result (λ beside. AreWithBoth old.now.library new.now.library old.now.dwarf
+        new.now.dwarf rules.now beside.notes) }
     ensures counts { IfOk result (λ beside. beside.counts
         ≡ counts_with_both old.now.library new.now.library rules.now) }
 {

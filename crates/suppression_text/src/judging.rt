@@ -118,7 +118,9 @@ fn put_property(
     name: &[u8],
     value: &[u8],
 ) -> Result<(), Refusal>
-    ensures put { OnOk result (sections.new.items ≡ with_properties sections.old.items (last_of sections.old.items) (keyed (keys.key_named name.now) value.now)) }
+    ensures put { OnOk result (sections.new.items
+        ≡ with_properties sections.old.items (last_of sections.old.items)
+        (keyed (keys.key_named name.now) value.now)) }
     ensures fault { Judges result (property_fault number (last_of sections.old.items) name.now value.now) }
     ensures past { IfErr result (λ e. OnPast e (λ l. ⊥)) }
 {
@@ -141,7 +143,8 @@ fn put_head(
     number: u64,
     name: &[u8],
 ) -> Result<(), Refusal>
-    ensures put { OnOk result (sections.new.items ≡ sections.old.items ++ headed number (keys.section_named name.now) []) }
+    ensures put { OnOk result (sections.new.items
+        ≡ sections.old.items ++ headed number (keys.section_named name.now) []) }
     ensures fault { Judges result (head_fault number name.now) }
     ensures past { IfErr result (λ e. OnPast e (λ l. ⊥)) }
 {

@@ -72,7 +72,8 @@ fn without_return(line: &[u8]) -> &[u8]
 /// The first line of a text, or `None` for a text without lines. A line ends with a line feed; one carriage return in front of it
 /// is not part of the line. The last line may lack its line feed.
 pub fn first_line(text: &[u8]) -> Option<FirstLine>
-    ensures lines { MatchOption result (lines text.now ≡ []) (λ first. lines text.now ≡ first.line.now ∷ lines first.rest.now) }
+    ensures lines { MatchOption result (lines text.now ≡ [])
+        (λ first. lines text.now ≡ first.line.now ∷ lines first.rest.now) }
     ensures shorter { MatchOption result (text.now ≡ []) (λ first. length first.rest.now < length text.now) }
 {
     match feed_in(text) {

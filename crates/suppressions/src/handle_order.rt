@@ -89,7 +89,10 @@ fn places_of(alloc: Global, handles: &[Handle]) -> Result<Vec<usize>, NoMemory>
 fn count_before(handles: &[Handle], places: &[usize], handle: Handle) -> usize
     requires { IsHandleOrder places.now (plain_handles handles.now) }
     ensures inside { result ≤ length places.now }
-    ensures parts { IsPartitionPoint (λ k. is_lt (handle_cmp (spec.handle_at (plain_handles handles.now) k) (plain_handle handle.entry)) ≡ true) (λ k. is_lt (handle_cmp (spec.handle_at (plain_handles handles.now) k) (plain_handle handle.entry)) ≡ false) places.now result }
+    ensures parts { IsPartitionPoint (λ k. is_lt
+        (handle_cmp (spec.handle_at (plain_handles handles.now) k) (plain_handle handle.entry)) ≡ true)
+        (λ k. is_lt (handle_cmp (spec.handle_at (plain_handles handles.now) k) (plain_handle handle.entry))
+        ≡ false) places.now result }
 {
     places.partition_point(|k| stands_before(handles, *k, handle))
 }
@@ -98,7 +101,10 @@ fn count_before(handles: &[Handle], places: &[usize], handle: Handle) -> usize
 fn count_upto(handles: &[Handle], places: &[usize], handle: Handle) -> usize
     requires { IsHandleOrder places.now (plain_handles handles.now) }
     ensures inside { result ≤ length places.now }
-    ensures parts { IsPartitionPoint (λ k. is_le (handle_cmp (spec.handle_at (plain_handles handles.now) k) (plain_handle handle.entry)) ≡ true) (λ k. is_le (handle_cmp (spec.handle_at (plain_handles handles.now) k) (plain_handle handle.entry)) ≡ false) places.now result }
+    ensures parts { IsPartitionPoint (λ k. is_le
+        (handle_cmp (spec.handle_at (plain_handles handles.now) k) (plain_handle handle.entry)) ≡ true)
+        (λ k. is_le (handle_cmp (spec.handle_at (plain_handles handles.now) k) (plain_handle handle.entry))
+        ≡ false) places.now result }
 {
     places.partition_point(|k| stands_upto(handles, *k, handle))
 }

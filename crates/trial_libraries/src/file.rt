@@ -125,7 +125,9 @@ fn put_section_header(
     place: u64,
     size: u64,
 ) -> Result<(), AllocError>
-    ensures { OnOk result (table.new.items ≡ table.old.items ++ section_header section.now.name_place section.now.kind place size section.now.link section.now.info section.now.entry_size) }
+    ensures { OnOk result (table.new.items ≡ table.old.items
+        ++ section_header section.now.name_place section.now.kind place size section.now.link section.now.info
+        section.now.entry_size) }
 {
     put_u32(table, section.name_place)?;
     put_u32(table, section.kind)?;
@@ -143,7 +145,10 @@ fn put_section_header(
 // Appends a section: its contents, padded with zeros, and its header in the table.
 fn put_section(layout: &mut Layout, section: &Section, contents: &[u8]) -> Result<(), AllocError>
     ensures sections { OnOk result (layout.new.sections.items ≡ layout.old.sections.items ++ filled contents.now) }
-    ensures table { OnOk result (layout.new.table.items ≡ layout.old.table.items ++ section_header section.now.name_place section.now.kind (EHDR_SIZE + length layout.old.sections.items) (length contents.now) section.now.link section.now.info section.now.entry_size) }
+    ensures table { OnOk result (layout.new.table.items
+        ≡ layout.old.table.items ++ section_header section.now.name_place section.now.kind
+        (EHDR_SIZE + length layout.old.sections.items)
+        (length contents.now) section.now.link section.now.info section.now.entry_size) }
 {
     let place = (EHDR_SIZE + layout.sections.as_slice().len()) as u64;
     put_section_header(&mut layout.table, section, place, contents.len() as u64)?;
@@ -152,8 +157,10 @@ fn put_section(layout: &mut Layout, section: &Section, contents: &[u8]) -> Resul
 
 // The parts after the header of a file with these symbols, symbol names and units.
 fn lay_out(alloc: Global, symbols: &[u8], names: &[u8], units: &[u8]) -> Result<Layout, AllocError>
-    ensures sections { IfOk result (λ layout. layout.sections.items ≡ flat_map filled (contents_of symbols.now names.now units.now)) }
-    ensures table { IfOk result (λ layout. layout.table.items ≡ section_table (contents_of symbols.now names.now units.now)) }
+    ensures sections { IfOk result (λ layout. layout.sections.items
+        ≡ flat_map filled (contents_of symbols.now names.now units.now)) }
+    ensures table { IfOk result (λ layout. layout.table.items
+        ≡ section_table (contents_of symbols.now names.now units.now)) }
 {
     let mut layout = Layout {
         sections: Vec::new(alloc),

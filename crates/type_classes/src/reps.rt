@@ -12,7 +12,8 @@ use std::alloc::Global;
 // For each class one of its nodes.
 fn first_nodes(alloc: Global, blocks: &Blocks) -> Result<Vec<usize>, NoMemory>
     requires { AreBlocks blocks.now }
-    ensures first { IfOk result (λ list. AreOfClasses (len_of blocks.now) (count_of blocks.now) (class_in blocks.now) list.items) }
+    ensures first { IfOk result (λ list. AreOfClasses (len_of blocks.now) (count_of blocks.now)
+        (class_in blocks.now) list.items) }
     ensures named { IfErr result (λ e. e ≡ Allocation) }
 {
     let mut list = Vec::with_capacity(alloc, blocks.count())?;
@@ -43,7 +44,8 @@ fn least_nodes<Ix: Index>(
 ) -> Result<Vec<usize>, NoMemory>
     requires blocks { AreBlocks blocks.now }
     requires len { len_of blocks.now ≡ length graph.now }
-    ensures nodes { IfOk result (λ list. AreOfClasses (length graph.now) (count_of blocks.now) (class_in blocks.now) list.items) }
+    ensures nodes { IfOk result (λ list. AreOfClasses (length graph.now) (count_of blocks.now)
+        (class_in blocks.now) list.items) }
     ensures least { IfOk result (λ list. (x : ℕ) → x < length graph.now
         → entry_at graph.now (at list.items (class_in blocks.now x)) ≤ entry_at graph.now x) }
     ensures named { IfErr result (λ e. e ≡ Allocation) }

@@ -351,7 +351,8 @@ pub(crate) fn spell<Ix: Index>(
     labels: &[Label],
     view: &View<Ix>,
 ) -> Result<(), NoMemory>
-    ensures spelled { OnOk result (IsSpellingOf into.new (record { labels = map plain_label labels.now; view = view.now })) }
+    ensures spelled { OnOk result (IsSpellingOf into.new
+        (record { labels = map plain_label labels.now; view = view.now })) }
     ensures named { IfErr result (λ e. e ≡ Allocation) }
 {
     into.numbers.clear();

@@ -46,8 +46,11 @@ fn take_members(
     requires sound { budget.old.taken ≤ budget.old.most }
     requires sound_letters { letters.old.taken ≤ letters.old.most }
     ensures parts { OnOk result (Takes budget.old budget.new (members_read types.now.dwarf.now c)) }
-    ensures letters { OnOk result (Takes letters.old letters.new (member_letters (flat_of types.now.dwarf.now (Some c)))) }
-    ensures past { IfErr result (λ e. OnLimit e (PassesEither budget.old (members_read types.now.dwarf.now c) letters.old (member_letters (flat_of types.now.dwarf.now (Some c))))) }
+    ensures letters { OnOk result (Takes letters.old letters.new
+        (member_letters (flat_of types.now.dwarf.now (Some c)))) }
+    ensures past { IfErr result (λ e. OnLimit e
+        (PassesEither budget.old (members_read types.now.dwarf.now c) letters.old
+        (member_letters (flat_of types.now.dwarf.now (Some c))))) }
 {
     laws_of_types();
     let dwarf = types.dwarf;
@@ -113,7 +116,9 @@ fn take_parts(
     requires sound_letters { letters.old.taken ≤ letters.old.most }
     ensures parts { OnOk result (Takes budget.old budget.new (members_held types.now.dwarf.now e)) }
     ensures letters { OnOk result (Takes letters.old letters.new (member_letters_held types.now.dwarf.now e)) }
-    ensures past { IfErr result (λ err. OnLimit err (PassesEither budget.old (members_held types.now.dwarf.now e) letters.old (member_letters_held types.now.dwarf.now e))) }
+    ensures past { IfErr result (λ err. OnLimit err
+        (PassesEither budget.old (members_held types.now.dwarf.now e) letters.old
+        (member_letters_held types.now.dwarf.now e))) }
 {
     laws_of_types();
     let own = summary_by_number(types.dwarf, types.found, types.summaries, number, e);
@@ -145,7 +150,8 @@ pub(crate) fn ask_parts(types: &JudgedTypes<'_, '_>, bytes: usize) -> Result<(),
     requires small { bytes < 2 ^ 38 }
     ensures parts { OnOk result (parts_in_all types.now.dwarf.now types.now.found.now ≤ allowed Members bytes) }
     ensures members { OnOk result (members_in_all types.now.dwarf.now types.now.found.now ≤ allowed Members bytes) }
-    ensures letters { OnOk result (member_letters_in_all types.now.dwarf.now types.now.found.now ≤ allowed Letters bytes) }
+    ensures letters { OnOk result (member_letters_in_all types.now.dwarf.now types.now.found.now
+        ≤ allowed Letters bytes) }
     ensures past { IfErr result (λ e. OnLimit e (PartsPass types.now.dwarf.now types.now.found.now bytes)) }
 {
     laws_of_types();
@@ -184,7 +190,9 @@ fn take_enumerators(
     requires sound_letters { letters.old.taken ≤ letters.old.most }
     ensures parts { OnOk result (Takes budget.old budget.new (enumerators_held dwarf.now e)) }
     ensures letters { OnOk result (Takes letters.old letters.new (enumerator_letters_held dwarf.now e)) }
-    ensures past { IfErr result (λ err. OnLimit err (PassesEither budget.old (enumerators_held dwarf.now e) letters.old (enumerator_letters_held dwarf.now e))) }
+    ensures past { IfErr result (λ err. OnLimit err
+        (PassesEither budget.old (enumerators_held dwarf.now e) letters.old
+        (enumerator_letters_held dwarf.now e))) }
 {
     match role_of(dwarf, e) {
         Role::Enumeration => {

@@ -52,8 +52,10 @@ fn node<'a, Ix: Index>(
     requires sound { letters.old.taken ≤ letters.old.most }
     requires fits { (e : ℕ) → Contains types.now.found.now e → is_too_large types.now.dwarf.now e ≡ false }
     ensures node { IfOk result (λ node. node ≡ first_node types.now.dwarf.now types.now.found.now ty) }
-    ensures letters { OnOk result (Takes letters.old letters.new (type_letters (first_node types.now.dwarf.now types.now.found.now ty))) }
-    ensures past { IfErr result (λ e. OnLimit e (PassesBy letters.old (type_letters (first_node types.now.dwarf.now types.now.found.now ty)))) }
+    ensures letters { OnOk result (Takes letters.old letters.new
+        (type_letters (first_node types.now.dwarf.now types.now.found.now ty))) }
+    ensures past { IfErr result (λ e. OnLimit e
+        (PassesBy letters.old (type_letters (first_node types.now.dwarf.now types.now.found.now ty)))) }
 {
     laws_of_types();
     let wanted = &ty;
@@ -84,8 +86,10 @@ fn first_nodes<'a, Ix: Index>(
     requires small { bytes < 2 ^ 38 }
     requires few { length types.now.found.now < 2 ^ 38 }
     ensures nodes { IfOk result (λ nodes. nodes ≡ sharing_spec.first_nodes types.now.dwarf.now types.now.found.now) }
-    ensures letters { OnOk result (type_letters_in_all types.now.dwarf.now types.now.found.now ≤ allowed Letters bytes) }
-    ensures names { OnOk result (names_in_all types.now.dwarf.now types.now.found.now ≤ allowed TypeNames (length types.now.found.now)) }
+    ensures letters { OnOk result (type_letters_in_all types.now.dwarf.now types.now.found.now
+        ≤ allowed Letters bytes) }
+    ensures names { OnOk result (names_in_all types.now.dwarf.now types.now.found.now
+        ≤ allowed TypeNames (length types.now.found.now)) }
     ensures past { IfErr result (λ e. OnLimit e (NodesPass types.now.dwarf.now types.now.found.now bytes)) }
 {
     laws_of_types();
@@ -117,8 +121,10 @@ pub(crate) fn nodes<'a, Ix: Index>(
     requires small { bytes < 2 ^ 38 }
     requires few { length types.now.found.now < 2 ^ 38 }
     ensures nodes { IfOk result (λ nodes. nodes ≡ made_nodes types.now.dwarf.now types.now.found.now) }
-    ensures letters { OnOk result (type_letters_in_all types.now.dwarf.now types.now.found.now ≤ allowed Letters bytes) }
-    ensures names { OnOk result (names_in_all types.now.dwarf.now types.now.found.now ≤ allowed TypeNames (length types.now.found.now)) }
+    ensures letters { OnOk result (type_letters_in_all types.now.dwarf.now types.now.found.now
+        ≤ allowed Letters bytes) }
+    ensures names { OnOk result (names_in_all types.now.dwarf.now types.now.found.now
+        ≤ allowed TypeNames (length types.now.found.now)) }
     ensures past { IfErr result (λ e. OnLimit e (NodesPass types.now.dwarf.now types.now.found.now bytes)) }
 {
     let first: List<Node<'a, Ix>> = first_nodes(alloc, types, bytes)?;

@@ -219,7 +219,8 @@ pub(crate) fn definitions_by(
 ) -> Option<(EntryNumber, EntryNumber)>
     requires there { AreThere (plain pair.now) }
     requires definitions { AreOfBoth pair.now.old_dwarf.now pair.now.new_dwarf.now definitions.now }
-    ensures found { result ≡ spec.definitions_by pair.now.old_dwarf.now pair.now.new_dwarf.now pair.now.old pair.now.new }
+    ensures found { result ≡ spec.definitions_by pair.now.old_dwarf.now pair.now.new_dwarf.now pair.now.old
+        pair.now.new }
     ensures old { IfSome result (λ found. found.0 < length pair.now.old_dwarf.now.tree.entries) }
     ensures new { IfSome result (λ found. found.1 < length pair.now.new_dwarf.now.tree.entries) }
 {

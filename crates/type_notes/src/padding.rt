@@ -87,7 +87,8 @@ fn lies_inside(bits: Bits, size: u64) -> bool
 fn fills(pair: &TypePair, k: usize) -> bool
     requires nodes { AreNodes pair.now }
     requires part { k < length (new_view pair.now).parts }
-    ensures { result ≡ spec.fills (old_nodes pair.now) (new_nodes pair.now) (old_view pair.now) (part_at (new_view pair.now) k) }
+    ensures { result ≡ spec.fills (old_nodes pair.now) (new_nodes pair.now) (old_view pair.now)
+        (part_at (new_view pair.now) k) }
 {
     let old = pair.old_graph.view(pair.old);
     let new = pair.new_graph.view(pair.new);

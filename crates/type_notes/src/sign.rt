@@ -36,7 +36,8 @@ pub(crate) fn is_signed_encoding(encoding: u64) -> bool
 // Whether one of the enumerators is negative.
 fn is_some_negative(dwarf: &Dwarf, enumerators: &[EntryNumber]) -> bool
     requires { All (λ c. c < length dwarf.now.tree.entries) enumerators.now }
-    ensures { result ≡ list_any (λ c. spec.is_negative (attribute_along dwarf.now.tree c dw_at_const_value)) enumerators.now }
+    ensures { result ≡ list_any (λ c. spec.is_negative (attribute_along dwarf.now.tree c dw_at_const_value))
+        enumerators.now }
 {
     for k in 0..enumerators.len() {
         let enumerator = enumerators[k];

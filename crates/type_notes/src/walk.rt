@@ -284,7 +284,8 @@ fn push_defined<'w, 'o, 'n, 'd>(
     requires new { visit.now.new < length walk.now.ground.now.pair.new.now.graph }
     ensures list { OnOk result (list.new
         ≡ list.old ++ changes_at compared.old (noted_pair walk.now.ground.now) visit.now) }
-    ensures compared { OnOk result (Joins (defined_behind (noted_pair walk.now.ground.now) visit.now) compared.old compared.new) }
+    ensures compared { OnOk result (Joins (defined_behind (noted_pair walk.now.ground.now) visit.now)
+        compared.old compared.new) }
 {
     let defined = definitions_of_types(walk.ground, walk.definitions, visit);
     push_definitions(list, compared, walk, defined, room)
@@ -304,7 +305,8 @@ fn found_at<'w, 'o, 'n, 'd>(
     requires new { visit.now.new < length walk.now.ground.now.pair.new.now.graph }
     ensures found { IfOk result (λ found. found
         ≡ differences_of (noted_pair walk.now.ground.now) visit.now ++ changes_at compared.old (noted_pair walk.now.ground.now) visit.now) }
-    ensures compared { OnOk result (Joins (defined_behind (noted_pair walk.now.ground.now) visit.now) compared.old compared.new) }
+    ensures compared { OnOk result (Joins (defined_behind (noted_pair walk.now.ground.now) visit.now)
+        compared.old compared.new) }
 {
     room.take_visit(walk.ground, visit)?;
     let mut found = differences_at(room.alloc, walk.ground, &walk.packed, visit)?;
@@ -328,7 +330,8 @@ fn push_visit<'w, 'o, 'n, 'd>(
     requires compared { AreCompared (noted_pair walk.now.ground.now) walk.now.visits.now number compared.old }
     ensures notes { OnOk result (notes.new
         ≡ notes.old ++ notes_at (noted_pair walk.now.ground.now) walk.now.visits.now number) }
-    ensures compared { OnOk result (AreCompared (noted_pair walk.now.ground.now) walk.now.visits.now (number + 1) compared.new) }
+    ensures compared { OnOk result (AreCompared (noted_pair walk.now.ground.now) walk.now.visits.now
+        (number + 1) compared.new) }
 {
     let visit = walk.visits.visit(number);
     if is_marked(walk.ground, visit.old, visit.way) {

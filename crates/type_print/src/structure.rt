@@ -83,7 +83,8 @@ pub fn layout<Ix: Index>(
     ensures inside { IfOk result (λ rows. AreInside (view_at graph.now (Ix.number_of ix)) rows.items) }
     ensures covered { IfOk result (λ rows. IsClean rows.items
         → CoverEachBitOnce (bits_at graph.now (Ix.number_of ix)) rows.items) }
-    ensures clashes { IfOk result (λ rows. NameClashes (members_at graph.now (Ix.number_of ix)) (bits_at graph.now (Ix.number_of ix)) rows.items) }
+    ensures clashes { IfOk result (λ rows. NameClashes (members_at graph.now (Ix.number_of ix))
+        (bits_at graph.now (Ix.number_of ix)) rows.items) }
 {
     graph.known();
     let view = graph.view(ix);

@@ -47,7 +47,8 @@ fn parts_row(
     requires role { visit.now.role ≡ spec.role_of dwarf.now.tree visit.now.e }
     requires same { IfSome visit.now.same (λ k. slice_get rows.now k
         ≡ Some (spec.parts_of dwarf.now.tree visit.now.e)) }
-    requires same_inside { IfSome visit.now.same (λ k. All (λ c. c < length dwarf.now.tree.entries) (spec.parts_of dwarf.now.tree visit.now.e)) }
+    requires same_inside { IfSome visit.now.same
+        (λ k. All (λ c. c < length dwarf.now.tree.entries) (spec.parts_of dwarf.now.tree visit.now.e)) }
     ensures parts { IfOk result (λ list. list.items ≡ spec.parts_of dwarf.now.tree visit.now.e) }
     ensures inside { IfOk result (λ list. All (λ c. c < length dwarf.now.tree.entries) list.items) }
     ensures named { IfErr result (λ e. e ≡ Allocation) }

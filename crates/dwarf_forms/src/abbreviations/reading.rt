@@ -88,7 +88,8 @@ fn short_number(bytes: &[u8], at: usize) -> Option<u8>
 #[inline(always)]
 pub fn short_pair(bytes: &[u8], at: usize) -> Option<ShortPair>
     ensures exact { option_map (λ p. (p.attribute, p.form)) result ≡ short_pair_at bytes.now at }
-    ensures found { IfSome result (λ p. specs_run bytes.now at ≡ put_front (plain_pair p.attribute p.form) (specs_run bytes.now (at + 2))) }
+    ensures found { IfSome result (λ p. specs_run bytes.now at
+        ≡ put_front (plain_pair p.attribute p.form) (specs_run bytes.now (at + 2))) }
     ensures step { IfSome result (λ p. spec_step bytes.now at ≡ Ok (plain_pair p.attribute p.form, at + 2)) }
     ensures inside { IfSome result (λ p. at + 2 ≤ length bytes.now) }
 {

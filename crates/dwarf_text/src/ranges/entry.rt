@@ -62,7 +62,8 @@ impl<'a> Source<'a> {
 
     // The address with an index, which is an unsigned LEB128.
     fn indexed(&self, at: usize) -> Result<(u64, usize), Fault>
-        ensures read { result ≡ field_at self.now.addr.now self.now.addr_base self.now.entry self.now.bytes.now the_field.Index at }
+        ensures read { result ≡ field_at self.now.addr.now self.now.addr_base self.now.entry self.now.bytes.now
+            the_field.Index at }
         ensures after { IfOk result (λ r. at ≤ r.1) }
         ensures inside { IfOk result (λ r. r.1 ≤ length self.now.bytes.now) }
     {
@@ -81,7 +82,8 @@ impl<'a> Source<'a> {
     // The number of a field.
     fn field(&self, field: Field, at: usize) -> Result<(u64, usize), Fault>
         requires { at ≤ length self.now.bytes.now }
-        ensures read { result ≡ field_at self.now.addr.now self.now.addr_base self.now.entry self.now.bytes.now field at }
+        ensures read { result ≡ field_at self.now.addr.now self.now.addr_base self.now.entry self.now.bytes.now
+            field at }
         ensures after { IfOk result (λ r. at ≤ r.1) }
         ensures inside { IfOk result (λ r. r.1 ≤ length self.now.bytes.now) }
     {
@@ -102,7 +104,8 @@ impl<'a> Source<'a> {
     // The entry whose kind is the byte before `at`.
     fn fields(&self, layout: Layout, at: usize, base: u64) -> Result<Entry, Fault>
         requires { at ≤ length self.now.bytes.now }
-        ensures read { seen_entry result ≡ fields_step self.now.addr.now self.now.addr_base self.now.entry self.now.bytes.now layout (at, base) }
+        ensures read { seen_entry result ≡ fields_step self.now.addr.now self.now.addr_base self.now.entry
+            self.now.bytes.now layout (at, base) }
         ensures after { IfOk result (λ e. at ≤ e.after) }
         ensures inside { IfOk result (λ e. e.after ≤ length self.now.bytes.now) }
     {
@@ -116,7 +119,8 @@ impl<'a> Source<'a> {
     #[tactic(auto, unfolding(crate::specs::ranges::RangeLists::kind_step))]
     fn entry_of_kind(&self, kind: u64, at: usize, base: u64) -> Result<Option<Entry>, Fault>
         requires { at ≤ length self.now.bytes.now }
-        ensures read { seen_step result ≡ kind_step self.now.addr.now self.now.addr_base self.now.entry self.now.bytes.now kind (at, base) }
+        ensures read { seen_step result ≡ kind_step self.now.addr.now self.now.addr_base self.now.entry
+            self.now.bytes.now kind (at, base) }
         ensures after { IfOk result (λ o. IfSome o (λ e. at ≤ e.after)) }
         ensures inside { IfOk result (λ o. IfSome o (λ e. e.after ≤ length self.now.bytes.now)) }
     {
@@ -135,7 +139,8 @@ impl<'a> Source<'a> {
     // The entry at an offset in `.debug_rnglists`, or None where the list ends.
     #[tactic(auto, unfolding(crate::specs::ranges::RangeLists::list_step))]
     pub(crate) fn list_entry(&self, at: usize, base: u64) -> Result<Option<Entry>, Fault>
-        ensures read { seen_step result ≡ list_step self.now.addr.now self.now.addr_base self.now.entry self.now.bytes.now (at, base) }
+        ensures read { seen_step result ≡ list_step self.now.addr.now self.now.addr_base self.now.entry
+            self.now.bytes.now (at, base) }
         ensures after { IfOk result (λ o. IfSome o (λ e. at < e.after)) }
         ensures inside { IfOk result (λ o. IfSome o (λ e. e.after ≤ length self.now.bytes.now)) }
     {
@@ -179,8 +184,12 @@ impl<'a> Source<'a> {
     // The entry at an offset in `.debug_rnglists`, or None where the list ends or has a fault: how many bytes are read up to the
     // first range.
     pub(crate) fn sized_list(&self, at: usize) -> Option<Entry>
-        ensures size { IfSome result (λ e. list_bytes self.now.addr.now self.now.addr_base self.now.entry self.now.bytes.now at ≡ (e.after - at) + bytes_behind (list_step self.now.addr.now self.now.addr_base self.now.entry self.now.bytes.now) (length self.now.bytes.now) e.start e.after) }
-        ensures none { IfNone result (list_bytes self.now.addr.now self.now.addr_base self.now.entry self.now.bytes.now at ≡ 0) }
+        ensures size { IfSome result (λ e. list_bytes self.now.addr.now self.now.addr_base self.now.entry
+            self.now.bytes.now at ≡ (e.after - at)
+            + bytes_behind (list_step self.now.addr.now self.now.addr_base self.now.entry self.now.bytes.now)
+            (length self.now.bytes.now) e.start e.after) }
+        ensures none { IfNone result (list_bytes self.now.addr.now self.now.addr_base self.now.entry
+            self.now.bytes.now at ≡ 0) }
         ensures after { IfSome result (λ e. at < e.after) }
         ensures inside { IfSome result (λ e. e.after ≤ length self.now.bytes.now) }
     {
@@ -192,7 +201,9 @@ impl<'a> Source<'a> {
 
     // The same of the pair at an offset in `.debug_ranges`.
     pub(crate) fn sized_pair(&self, at: usize) -> Option<Entry>
-        ensures size { IfSome result (λ e. pair_bytes self.now.entry self.now.bytes.now at ≡ (e.after - at) + bytes_behind (pair_step self.now.entry self.now.bytes.now) (length self.now.bytes.now) e.start e.after) }
+        ensures size { IfSome result (λ e. pair_bytes self.now.entry self.now.bytes.now at
+            ≡ (e.after - at) + bytes_behind (pair_step self.now.entry self.now.bytes.now)
+            (length self.now.bytes.now) e.start e.after) }
         ensures none { IfNone result (pair_bytes self.now.entry self.now.bytes.now at ≡ 0) }
         ensures after { IfSome result (λ e. at < e.after) }
         ensures inside { IfSome result (λ e. e.after ≤ length self.now.bytes.now) }

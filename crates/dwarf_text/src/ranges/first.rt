@@ -28,7 +28,8 @@ fn place_of(rnglists: &[u8], base: Option<u64>, index: u64) -> Option<u64>
 // The start of the first range of the list at an offset in `.debug_rnglists`.
 #[tactic(auto, using(crate::proofs::ranges_lemmas::ListLemmas::list_passes, crate::proofs::ranges_lemmas::ListLemmas::list_gives, crate::proofs::ranges_lemmas::ListLemmas::list_ends))]
 fn first_in_list(source: &Source, place: u64, low: u64) -> Result<Option<u64>, Fault>
-    ensures { result ≡ first_start (list_run source.now.addr.now source.now.addr_base source.now.entry source.now.bytes.now (place, low)) }
+    ensures { result ≡ first_start (list_run source.now.addr.now source.now.addr_base source.now.entry
+        source.now.bytes.now (place, low)) }
 {
     let mut at = place as usize;
     let mut base = low;
@@ -81,7 +82,8 @@ pub fn first_address(
     sections: &Sections,
     entry: DebugInfoOffset,
 ) -> Result<Option<u64>, Fault>
-    ensures { result ≡ first_address_of sections.now.rnglists.now bases.now.rnglists sections.now.ranges.now sections.now.addr.now bases.now.addr bases.now.low entry list }
+    ensures { result ≡ first_address_of sections.now.rnglists.now bases.now.rnglists sections.now.ranges.now
+        sections.now.addr.now bases.now.addr bases.now.low entry list }
 {
     let lists = Source {
         bytes: sections.rnglists,
@@ -112,9 +114,14 @@ pub fn first_address(
 // Takes the bytes of the entries from an offset in `.debug_rnglists` up to the first range.
 fn take_list(source: &Source, place: u64, budget: &mut Budget) -> Result<(), NoMemory>
     requires { budget.old.taken ≤ budget.old.most }
-    ensures taken { OnOk result (budget.new ≡ with_taken budget.old (list_bytes source.now.addr.now source.now.addr_base source.now.entry source.now.bytes.now place)) }
-    ensures within { OnOk result (budget.old.taken + list_bytes source.now.addr.now source.now.addr_base source.now.entry source.now.bytes.now place ≤ budget.old.most) }
-    ensures past { OnErr result (budget.old.most < budget.old.taken + list_bytes source.now.addr.now source.now.addr_base source.now.entry source.now.bytes.now place) }
+    ensures taken { OnOk result (budget.new ≡ with_taken budget.old
+        (list_bytes source.now.addr.now source.now.addr_base source.now.entry source.now.bytes.now place)) }
+    ensures within { OnOk result (budget.old.taken
+        + list_bytes source.now.addr.now source.now.addr_base source.now.entry source.now.bytes.now place
+        ≤ budget.old.most) }
+    ensures past { OnErr result (budget.old.most
+        < budget.old.taken + list_bytes source.now.addr.now source.now.addr_base source.now.entry
+        source.now.bytes.now place) }
     ensures named { IfErr result (λ e. e ≡ Past budget.old.limit) }
 {
     let mut at = place as usize;
@@ -131,9 +138,12 @@ fn take_list(source: &Source, place: u64, budget: &mut Budget) -> Result<(), NoM
 // Takes the bytes of the pairs from an offset in `.debug_ranges` up to the first range.
 fn take_pairs(source: &Source, place: u64, budget: &mut Budget) -> Result<(), NoMemory>
     requires { budget.old.taken ≤ budget.old.most }
-    ensures taken { OnOk result (budget.new ≡ with_taken budget.old (pair_bytes source.now.entry source.now.bytes.now place)) }
-    ensures within { OnOk result (budget.old.taken + pair_bytes source.now.entry source.now.bytes.now place ≤ budget.old.most) }
-    ensures past { OnErr result (budget.old.most < budget.old.taken + pair_bytes source.now.entry source.now.bytes.now place) }
+    ensures taken { OnOk result (budget.new ≡ with_taken budget.old
+        (pair_bytes source.now.entry source.now.bytes.now place)) }
+    ensures within { OnOk result (budget.old.taken + pair_bytes source.now.entry source.now.bytes.now place
+        ≤ budget.old.most) }
+    ensures past { OnErr result (budget.old.most
+        < budget.old.taken + pair_bytes source.now.entry source.now.bytes.now place) }
     ensures named { IfErr result (λ e. e ≡ Past budget.old.limit) }
 {
     let mut at = place as usize;
@@ -156,9 +166,15 @@ pub fn take_first(
     budget: &mut Budget,
 ) -> Result<(), NoMemory>
     requires { budget.old.taken ≤ budget.old.most }
-    ensures taken { OnOk result (budget.new ≡ with_taken budget.old (first_bytes_of sections.now.rnglists.now bases.now.rnglists sections.now.ranges.now sections.now.addr.now bases.now.addr list)) }
-    ensures within { OnOk result (budget.old.taken + first_bytes_of sections.now.rnglists.now bases.now.rnglists sections.now.ranges.now sections.now.addr.now bases.now.addr list ≤ budget.old.most) }
-    ensures past { OnErr result (budget.old.most < budget.old.taken + first_bytes_of sections.now.rnglists.now bases.now.rnglists sections.now.ranges.now sections.now.addr.now bases.now.addr list) }
+    ensures taken { OnOk result (budget.new ≡ with_taken budget.old
+        (first_bytes_of sections.now.rnglists.now bases.now.rnglists sections.now.ranges.now
+        sections.now.addr.now bases.now.addr list)) }
+    ensures within { OnOk result (budget.old.taken
+        + first_bytes_of sections.now.rnglists.now bases.now.rnglists sections.now.ranges.now
+        sections.now.addr.now bases.now.addr list ≤ budget.old.most) }
+    ensures past { OnErr result (budget.old.most
+        < budget.old.taken + first_bytes_of sections.now.rnglists.now bases.now.rnglists sections.now.ranges.now
+        sections.now.addr.now bases.now.addr list) }
     ensures named { IfErr result (λ e. e ≡ Past budget.old.limit) }
 {
     let lists = Source {

@@ -21,12 +21,16 @@ pub fn section_types_have_their_numbers()
 /// In a file without a fault each section that has bytes lies inside the file, and its contents have the size that its header
 /// gives.
 pub fn sections_lie_inside()
-    ensures inside { (f : List ℕ) (i : ℕ) → elf_fault f ≡ None → i < (table f).count → holds_bytes i (section f i) ≡ true → (section f i).offset + (section f i).size ≤ length f }
-    ensures whole { (f : List ℕ) (i : ℕ) → elf_fault f ≡ None → i < (table f).count → holds_bytes i (section f i) ≡ true → length (contents f i) ≡ (section f i).size }
+    ensures inside { (f : List ℕ) (i : ℕ) → elf_fault f ≡ None → i < (table f).count
+        → holds_bytes i (section f i) ≡ true → (section f i).offset + (section f i).size ≤ length f }
+    ensures whole { (f : List ℕ) (i : ℕ) → elf_fault f ≡ None → i < (table f).count
+        → holds_bytes i (section f i) ≡ true → length (contents f i) ≡ (section f i).size }
 {}
 
 /// In a file without a fault each section has a name, and none is a compressed debug section by name or flags.
 pub fn sections_have_names()
-    ensures named { (f : List ℕ) (i : ℕ) → elf_fault f ≡ None → i < (table f).count → (name : List ℕ) × (section_name f i ≡ Some name) }
-    ensures plain { (f name : List ℕ) (i : ℕ) → elf_fault f ≡ None → i < (table f).count → section_name f i ≡ Some name → is_compressed name (section f i).flags ≡ false }
+    ensures named { (f : List ℕ) (i : ℕ) → elf_fault f ≡ None → i < (table f).count
+        → (name : List ℕ) × (section_name f i ≡ Some name) }
+    ensures plain { (f name : List ℕ) (i : ℕ) → elf_fault f ≡ None → i < (table f).count
+        → section_name f i ≡ Some name → is_compressed name (section f i).flags ≡ false }
 {}

@@ -59,7 +59,8 @@ pub fn soname<'a>(file: &ElfFile<'a>) -> Result<Option<&'a [u8]>, Fault>
 #[tactic(auto, unfolding(crate::specs::symbols::Dynamic::soname_fault, crate::specs::symbols::Dynamic::value_in))]
 fn soname_in<'a>(table: &[u8], strings: &'a [u8]) -> Result<Option<&'a [u8]>, Fault>
     ensures judged { Settles result (option_and_then (soname_fault table.now strings.now) (soname_entry table.now)) }
-    ensures read { IfOk result (λ name. option_copied name ≡ option_and_then (text_of_entry table.now strings.now) (soname_entry table.now)) }
+    ensures read { IfOk result (λ name. option_copied name
+        ≡ option_and_then (text_of_entry table.now strings.now) (soname_entry table.now)) }
 {
     match soname_entry_in(table) {
         None => Ok(None),

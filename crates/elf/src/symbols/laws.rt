@@ -31,12 +31,15 @@ pub fn symbols_have_their_numbers()
 pub fn symbols_fill_their_table()
     ensures numbered { (f : List ℕ) → map (λ s. s.number) (symbols_of f) ≡ range_with_len 0 (length (symbols_of f)) }
     ensures whole { (f : List ℕ) → symbol_fault f ≡ None → sym_size * length (symbols_of f) ≡ length (symbol_table f) }
-    ensures named { (f : List ℕ) (i : ℕ) → symbol_fault f ≡ None → i < length (symbols_of f) → name_in (symbol_table f) (symbol_strings f) i ≡ Some (symbol_in (symbol_table f) (symbol_strings f) i).name }
+    ensures named { (f : List ℕ) (i : ℕ) → symbol_fault f ≡ None → i < length (symbols_of f)
+        → name_in (symbol_table f) (symbol_strings f) i
+        ≡ Some (symbol_in (symbol_table f) (symbol_strings f) i).name }
 {}
 
 /// The soname comes from the first entry with tag SONAME before the end of the table. A file without a fault has no soname only
 /// where there is no such entry.
 pub fn the_soname_is_the_first_before_the_end()
     ensures found { (table : List ℕ) (i : ℕ) → soname_entry table ≡ Some i → IsFirstSoname table i }
-    ensures missing { (f : List ℕ) → dynamic_fault f ≡ None → soname_of f ≡ None → soname_entry (dynamic_table f) ≡ None }
+    ensures missing { (f : List ℕ) → dynamic_fault f ≡ None → soname_of f ≡ None
+        → soname_entry (dynamic_table f) ≡ None }
 {}

@@ -16,14 +16,21 @@ pub fn indexes_have_their_numbers()
 /// of indexes, each symbol has the version of global symbols without a version.
 pub fn each_symbol_has_its_version()
     ensures kept { (f : List ℕ) (symbols : ℕ) (i : ℕ) → version_in (versions_of f symbols) i ≡ version_at f symbols i }
-    ensures unversioned { (f : List ℕ) (symbols : ℕ) (i : ℕ) → section_of_kind f sht_gnu_versym ≡ None → i < symbols → version_at f symbols i ≡ Some (record { name = None; index = ver_ndx_global; hidden = false }) }
+    ensures unversioned { (f : List ℕ) (symbols : ℕ) (i : ℕ) → section_of_kind f sht_gnu_versym ≡ None
+        → i < symbols → version_at f symbols i
+        ≡ Some (record { name = None; index = ver_ndx_global; hidden = false }) }
 {}
 
 /// Without a fault each definition lies inside its section and has a name, no two share an index, and each index gives the
 /// name of its own definition.
 pub fn each_definition_names_its_index()
-    ensures inside { (f : List ℕ) (symbols : ℕ) (k : ℕ) → version_fault f symbols ≡ None → k < definition_count f → place_of (definition_table f) k + verdef_size ≤ length (definition_table f) }
-    ensures named { (f : List ℕ) (symbols : ℕ) (k : ℕ) → version_fault f symbols ≡ None → k < definition_count f → name_of (definition_table f) (definition_strings f) k ≢ None }
-    ensures apart { (f : List ℕ) (symbols : ℕ) (j : ℕ) (k : ℕ) → version_fault f symbols ≡ None → j < k → k < definition_count f → index_of (definition_table f) j ≢ index_of (definition_table f) k }
-    ensures found { (f : List ℕ) (symbols : ℕ) (k : ℕ) → version_fault f symbols ≡ None → k < definition_count f → version_name f (index_of (definition_table f) k) ≡ name_of (definition_table f) (definition_strings f) k }
+    ensures inside { (f : List ℕ) (symbols : ℕ) (k : ℕ) → version_fault f symbols ≡ None
+        → k < definition_count f → place_of (definition_table f) k + verdef_size ≤ length (definition_table f) }
+    ensures named { (f : List ℕ) (symbols : ℕ) (k : ℕ) → version_fault f symbols ≡ None → k < definition_count f
+        → name_of (definition_table f) (definition_strings f) k ≢ None }
+    ensures apart { (f : List ℕ) (symbols : ℕ) (j : ℕ) (k : ℕ) → version_fault f symbols ≡ None → j < k
+        → k < definition_count f → index_of (definition_table f) j ≢ index_of (definition_table f) k }
+    ensures found { (f : List ℕ) (symbols : ℕ) (k : ℕ) → version_fault f symbols ≡ None → k < definition_count f
+        → version_name f (index_of (definition_table f) k)
+        ≡ name_of (definition_table f) (definition_strings f) k }
 {}

@@ -112,8 +112,10 @@ fn push_lines<Ix: Index>(
     requires { budget.old.taken ≤ budget.old.most }
     ensures lines { OnOk result (string_bytes text.new
         ≡ string_bytes text.old ++ flat_map (export_line graph.now) (plain_exports exports.now)) }
-    ensures within { OnOk result (budget.old.taken + length (flat_map (export_line graph.now) (plain_exports exports.now)) ≤ budget.old.most) }
-    ensures past { IfErr result (λ e. OnLimit e (LinesPass (flat_map (export_line graph.now) (plain_exports exports.now)) budget.old)) }
+    ensures within { OnOk result (budget.old.taken
+        + length (flat_map (export_line graph.now) (plain_exports exports.now)) ≤ budget.old.most) }
+    ensures past { IfErr result (λ e. OnLimit e
+        (LinesPass (flat_map (export_line graph.now) (plain_exports exports.now)) budget.old)) }
 {
     for export in exports {
         let before = text.len();

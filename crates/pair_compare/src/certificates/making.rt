@@ -61,7 +61,8 @@ pub fn make_cert<'x, 'c, 'o, 'n>(
     requires exports { AreBound (sides_of pair.now) }
     requires types { IsUnbroken (sides_of pair.now) old_classes.now new_classes.now visits.now }
     ensures certificate { IfOk result (IsCertificateOf (sides_of pair.now)) }
-    ensures accepted { IfOk result (λ cert. IsAccepted (asked pair.now.old.now pair.now.new.now pair.now.marks.now cert)) }
+    ensures accepted { IfOk result (λ cert. IsAccepted
+        (asked pair.now.old.now pair.now.new.now pair.now.marks.now cert)) }
     ensures count { IfOk result (λ cert. lines_weight (sides_of pair.now) cert.pairs
         ≡ sum_by (weight_at (task_of (sides_of pair.now))) (map seen visits.now)) }
     ensures named { IfErr result (λ e. e ≡ Allocation) }

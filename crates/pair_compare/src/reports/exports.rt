@@ -166,7 +166,8 @@ pub(crate) fn push_export_rows(
     ensures appended { OnOk result (rows.new.list
         ≡ rows.old.list ++ export_rows_spec.export_rows (sides_of ground.now)) }
     ensures counted { OnOk result (IsTaken rows.old.room.most row_size rows.new.list rows.new.room) }
-    ensures past { IfErr result (λ e. OnLimit e (RowsPass rows.old.room.most (rows.old.list ++ export_rows_spec.export_rows (sides_of ground.now)))) }
+    ensures past { IfErr result (λ e. OnLimit e
+        (RowsPass rows.old.room.most (rows.old.list ++ export_rows_spec.export_rows (sides_of ground.now)))) }
 {
     push_soname_rows(
         alloc,

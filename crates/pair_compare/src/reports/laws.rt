@@ -103,7 +103,8 @@ pub fn a_right_report_is_one()
 
 /// An exploration from the types of the compared exports, over the classes of alike nodes, is an exploration of the two libraries.
 pub fn alike_types_are_explored()
-    ensures { (s : Sides) (old_nodes new_nodes : List PlainNode) (roots : List PlainRoot) (old new : PlainClasses) (visits : List Visit) (broken : List (ℕ × Broken))
+    ensures { (s : Sides) (old_nodes new_nodes : List PlainNode) (roots : List PlainRoot)
+        (old new : PlainClasses) (visits : List Visit) (broken : List (ℕ × Broken))
         → old_nodes ≡ s.old.graph → new_nodes ≡ s.new.graph → roots ≡ typed_roots s → IsGraph old_nodes → IsGraph new_nodes
         → AreSound old → AreSound new → AreCoarsest old → AreCoarsest new
         → IsScope (scope old_nodes new_nodes roots s.marks old new) → IsExploration (scope old_nodes new_nodes roots s.marks old new) visits broken

@@ -73,7 +73,8 @@ fn told(
     requires { AreReadable (sides_of ground.now) explored.now.visits explored.now.breaks }
     ensures told { IfOk result (λ told. told
         ≡ told_breaks (task_of (sides_of ground.now)) explored.now.visits explored.now.breaks) }
-    ensures past { IfErr result (λ e. OnLimit e (DetailsPass (sides_of ground.now) explored.now.visits explored.now.breaks)) }
+    ensures past { IfErr result (λ e. OnLimit e
+        (DetailsPass (sides_of ground.now) explored.now.visits explored.now.breaks)) }
 {
     // A file chooses the texts of the keys, so they stand in a search tree: no choice makes one costlier than others.
     let mut keys: BTreeSet<(u8, usize, usize, Vec<u8>)> = BTreeSet::new(alloc);
@@ -132,7 +133,9 @@ pub(crate) fn push_type_rows(
     requires counted { IsTaken rows.old.room.most row_size rows.old.list rows.old.room }
     ensures appended { OnOk result (rows.new.list
         ≡ rows.old.list ++ type_rows (sides_of ground.now) explored.now.visits explored.now.breaks) }
-    ensures past { IfErr result (λ e. OnLimit e (TypeRowsPass (sides_of ground.now) rows.old.room.most rows.old.list explored.now.visits explored.now.breaks)) }
+    ensures past { IfErr result (λ e. OnLimit e
+        (TypeRowsPass (sides_of ground.now) rows.old.room.most rows.old.list explored.now.visits
+        explored.now.breaks)) }
 {
     rules_have_places_of_their_own();
     let told = told(alloc, ground, explored)?;
