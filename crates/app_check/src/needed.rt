@@ -5,34 +5,13 @@ ghost use Rattle.abi_base.specs.Elf.{dyn_size};
 ghost use Rattle.abi_base.specs.Limits.{input_limit};
 ghost use Rattle.abi_base.specs.Numbers.{is_zero};
 ghost use Rattle.abi_base.specs.Outcome.{OnLimit};
-ghost use Rattle.elf.specs.symbols.Dynamic.{tag_in, value_in};
 ghost use Rattle.app_check.specs.Links.{needed_cost, needs_in, Exceeds, PassesNeeded, PassesNeededIn, PassesSoname};
 ghost use Rattle.app_check.specs.Links as spec;
 
-use abi_base::{Budget, Limit, NoMemory, text_at, u64_in};
-use elf::constants::{D_TAG, D_VAL, DT_NULL, DYN_SIZE, SHT_DYNAMIC};
+use abi_base::{Budget, Limit, NoMemory, text_at};
+use elf::constants::{DT_NEEDED, DT_NULL, DYN_SIZE, SHT_DYNAMIC};
 use elf::file::ElfFile;
-
-// The tag of a dynamic table entry with the name of a needed library (System V gABI, "Dynamic Section").
-const DT_NEEDED: u64 = 1;
-
-// The tag of the entry with this number.
-#[tactic(auto, unfolding(elf::specs::symbols::Dynamic::tag_in))]
-fn tag_at(table: &[u8], number: usize) -> u64
-    requires { dyn_size * (number + 1) ≤ length table.now }
-    ensures { result ≡ tag_in table.now number }
-{
-    u64_in(table, DYN_SIZE * number + D_TAG)
-}
-
-// The value of the entry with this number.
-#[tactic(auto, unfolding(elf::specs::symbols::Dynamic::value_in))]
-fn value_at(table: &[u8], number: usize) -> u64
-    requires { dyn_size * (number + 1) ≤ length table.now }
-    ensures { result ≡ value_in table.now number }
-{
-    u64_in(table, DYN_SIZE * number + D_VAL)
-}
+use elf::symbols::{tag_at, value_at};
 
 // Whether the byte at an offset is 0.
 fn is_zero_at(strings: &[u8], at: u64) -> bool

@@ -193,6 +193,9 @@ pub const D_VAL: usize = 8;
 /// The tag that ends the table.
 pub const DT_NULL: u64 = 0;
 
+/// The tag of the name of a needed shared object.
+pub const DT_NEEDED: u64 = 1;
+
 /// The tag of the name of the shared object.
 pub const DT_SONAME: u64 = 14;
 

@@ -4,7 +4,8 @@ use Rattle.std.specs.Prelude.{find, take_while}
 use Rattle.std.specs.List.{cons_option, filter_map}
 use Rattle.std.proofs.lemmas.List.Sums.{take_while-cons}
 use Rattle.abi_base.proofs.lemmas.Places.{places, places_more, places_none}
-use Rattle.explain.specs.Programs.{is_used, has_flags}
+use Rattle.elf.specs.symbols.Dynamic.{is_used}
+use Rattle.explain.specs.Programs.{has_flags}
 
 -- ---- headers
 

@@ -8,11 +8,11 @@ abbrev pub command_names : List (List ℕ)
 command_names =
     codes "check" ∷ codes "app" ∷ codes "verify" ∷ codes "compose" ∷ codes "migrate" ∷ codes "exports" ∷ codes "entries" ∷ codes "layout" ∷ codes "trial" ∷ []
 
--- the Levenshtein distance: how few bytes are inserted, removed or replaced to make one word of the other
+-- the Levenshtein distance: the least number of bytes to insert, remove or replace on the way from one word to the other
 abbrev pub edits : (from to : List ℕ) → ℕ
 edits from to = levenshtein_row nat_eq from to (length to)
 
--- the word has at most 16 bytes, and at most two edits make the name of it
+-- the word has at most 16 bytes, and is at most two edits away from the name
 abbrev pub IsNear : (word name : List ℕ) → Type 0
 IsNear word name = (length word ≤ 16) × (edits word name ≤ 2)
 

@@ -1,9 +1,10 @@
 -- Programs that are given as libraries (System V gABI, "Program Header" and "Dynamic Section"; the flags are GNU's). A file is the
 -- list of its bytes.
-use Rattle.std.specs.Prelude.{ℕ, ◌+◌, ◌*◌, ◌/◌, ◌%◌, ◌==◌, ◌&&◌, nat_le, Bool, false, not, if◌then◌else◌, List, length, take, drop, find, take_while, Option, Some, None, is_some, unwrap_or, option_and_then, codes}
+use Rattle.std.specs.Prelude.{ℕ, ◌+◌, ◌*◌, ◌/◌, ◌%◌, ◌==◌, ◌&&◌, nat_le, Bool, false, if◌then◌else◌, List, length, take, drop, find, Option, Some, None, is_some, unwrap_or, option_and_then, codes}
 use Rattle.std.specs.List.{filter_map, range_with_len}
 use Rattle.std.specs.Option.{option_map, option_map_or}
 use Rattle.abi_base.specs.Numbers.{number, number_at}
+use Rattle.elf.specs.symbols.Dynamic.{tag_in, value_in, entry_numbers}
 
 -- the bytes of this size at an offset, if the file has them all
 abbrev pub piece_at : List ℕ → (at size : ℕ) → Option (List ℕ)
@@ -45,28 +46,17 @@ contents_of f header = piece_at f (number 8 header 8) (number 8 header 32)
 abbrev pub dynamic_table : List ℕ → Option (List ℕ)
 dynamic_table f = option_and_then (contents_of f) (segment_of f 2)
 
--- the tag of an entry, and its value; an entry has 16 bytes
-unfoldable pub tag_of : List ℕ → ℕ → ℕ
-tag_of table i = number 8 table (16 * i)
-
-unfoldable pub value_of : List ℕ → ℕ → ℕ
-value_of table i = number 8 table (16 * i + 8)
-
--- the tag of an entry is not DT_NULL, which is 0 and ends the table
-abbrev pub is_used : List ℕ → ℕ → Bool
-is_used table i = not (tag_of table i == 0)
-
 -- the tag of an entry is DT_FLAGS_1
 abbrev pub has_flags : List ℕ → ℕ → Bool
-has_flags table i = tag_of table i == 0x6ffffffb
+has_flags table i = tag_in table i == 0x6ffffffb
 
 -- the first entry with the tag DT_FLAGS_1 among those before the end
 abbrev pub flags_entry : List ℕ → Option ℕ
-flags_entry table = find (has_flags table) (take_while (is_used table) (range_with_len 0 (length table / 16)))
+flags_entry table = find (has_flags table) (entry_numbers table)
 
 -- its value
 abbrev pub flags_of : List ℕ → Option ℕ
-flags_of table = option_map (value_of table) (flags_entry table)
+flags_of table = option_map (value_in table) (flags_entry table)
 
 -- the bit DF_1_PIE of the flags
 abbrev pub says_pie : ℕ → Bool

@@ -53,14 +53,7 @@ pub(crate) const PT_DYNAMIC: u32 = 2;
 
 pub(crate) const PT_INTERP: u32 = 3;
 
-// The size of an entry of the dynamic table, the offset of its value, the tags of the end and of the flags (gABI, "Dynamic
-// Section"; DT_FLAGS_1 and its flag DF_1_PIE are GNU's).
-pub(crate) const DYNAMIC_SIZE: usize = 16;
-
-pub(crate) const D_VAL: usize = 8;
-
-pub(crate) const DT_NULL: u64 = 0;
-
+// The tag of the flags in the dynamic table, and the flag of a position-independent executable (both GNU's).
 pub(crate) const DT_FLAGS_1: u64 = 0x6fff_fffb;
 
 pub(crate) const DF_1_PIE: u64 = 0x0800_0000;

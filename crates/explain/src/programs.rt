@@ -3,16 +3,18 @@ ghost use Rattle.std.specs.Prelude.{◌≡◌, ◌+◌, ◌*◌, ◌≤◌, [], 
 ghost use Rattle.std.specs.List.{cons_option};
 ghost use Rattle.std.specs.Option.{option_copied};
 ghost use Rattle.explain.specs.Lines.{is_one_line};
-ghost use Rattle.explain.specs.Programs.{header_with, headers_in, tag_of, flags_entry, flags_of, program_words};
+ghost use Rattle.explain.specs.Programs.{header_with, headers_in, flags_entry, flags_of, program_words};
 ghost use Rattle.explain.specs.Programs as spec;
 ghost use Rattle.explain.specs.Sentences.{said_of};
 
 use crate::constants::{
-    D_VAL, DF_1_PIE, DT_FLAGS_1, DT_NULL, DYNAMIC_SIZE, E_PHNUM, E_PHOFF, P_FILESZ, P_OFFSET,
-    P_TYPE, PROGRAM_HEADER_SIZE, PT_DYNAMIC, PT_INTERP,
+    DF_1_PIE, DT_FLAGS_1, E_PHNUM, E_PHOFF, P_FILESZ, P_OFFSET, P_TYPE, PROGRAM_HEADER_SIZE,
+    PT_DYNAMIC, PT_INTERP,
 };
 use crate::lines::said;
 use abi_base::{NoMemory, u16_at, u32_in, u64_in};
+use elf::constants::{DT_NULL, DYN_SIZE};
+use elf::symbols::{tag_at, value_at};
 use std::alloc::Global;
 
 // The bytes of this size at an offset, if there are that many.
@@ -107,30 +109,12 @@ fn dynamic_table(bytes: &[u8]) -> Option<&[u8]>
     }
 }
 
-// The tag of the entry of a dynamic table with this number.
-#[tactic(auto, unfolding(crate::specs::Programs::tag_of))]
-fn tag_at(table: &[u8], number: usize) -> u64
-    requires { 16 * (number + 1) ≤ length table.now }
-    ensures { result ≡ tag_of table.now number }
-{
-    u64_in(table, DYNAMIC_SIZE * number)
-}
-
-// The value of this entry.
-#[tactic(auto, unfolding(crate::specs::Programs::value_of))]
-fn value_at(table: &[u8], number: usize) -> u64
-    requires { 16 * (number + 1) ≤ length table.now }
-    ensures { result ≡ spec.value_of table.now number }
-{
-    u64_in(table, DYNAMIC_SIZE * number + D_VAL)
-}
-
 // The number of the first entry with the tag DT_FLAGS_1 in a dynamic table.
 fn flags_entry_in(table: &[u8]) -> Option<usize>
     ensures entry { result ≡ flags_entry table.now }
     ensures inside { IfSome result (λ i. 16 * (i + 1) ≤ length table.now) }
 {
-    for number in 0..table.len() / DYNAMIC_SIZE {
+    for number in 0..table.len() / DYN_SIZE {
         let tag = tag_at(table, number);
         if tag == DT_NULL {
             return None;

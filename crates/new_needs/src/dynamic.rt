@@ -6,26 +6,15 @@ ghost use Rattle.abi_base.specs.Budgets.{with_taken};
 ghost use Rattle.abi_base.specs.Elf.{dyn_size};
 ghost use Rattle.abi_base.specs.Limits.{input_limit};
 ghost use Rattle.abi_base.specs.Outcome.{Judges, OnLimit, OnPast, Settles};
-ghost use Rattle.elf.specs.symbols.Dynamic.{tag_in, entry_numbers};
+ghost use Rattle.elf.specs.symbols.Dynamic.{entry_numbers};
 ghost use Rattle.new_needs.specs.NeededFiles.{needed_name, needed_name_fault, needed_in, needed_fault_in, needed_fault, name_cost, plain_names, PassesNamesIn, PassesNames};
 ghost use Rattle.new_needs.specs.NeededFiles as spec;
 
-use abi_base::{Budget, Fault, FaultKind, INPUT_LIMIT, Limit, NoMemory, Refusal, text_at, u64_in};
-use elf::constants::{D_TAG, D_VAL, DT_NULL, DYN_SIZE, SHT_DYNAMIC};
+use abi_base::{Budget, Fault, FaultKind, INPUT_LIMIT, Limit, NoMemory, Refusal, text_at};
+use elf::constants::{DT_NEEDED, DT_NULL, DYN_SIZE, SHT_DYNAMIC};
 use elf::file::ElfFile;
+use elf::symbols::{tag_at, value_at};
 use std::alloc::Global;
-
-// The tag of a dynamic table entry with the name of a needed file (System V gABI, "Dynamic Section").
-const DT_NEEDED: u64 = 1;
-
-// The tag of the entry with this number.
-#[tactic(auto, unfolding(elf::specs::symbols::Dynamic::tag_in))]
-fn tag_at(table: &[u8], number: usize) -> u64
-    requires { dyn_size * (number + 1) ≤ length table.now }
-    ensures { result ≡ tag_in table.now number }
-{
-    u64_in(table, DYN_SIZE * number + D_TAG)
-}
 
 // The number of entries before the first one with tag NULL.
 fn used_entries(table: &[u8]) -> usize
@@ -42,7 +31,7 @@ fn used_entries(table: &[u8]) -> usize
 }
 
 // The name at the entry with this number, if it has the tag NEEDED.
-#[tactic(auto, unfolding(crate::specs::NeededFiles::needed_name, crate::specs::NeededFiles::needed_name_fault, elf::specs::symbols::Dynamic::value_in))]
+#[tactic(auto, unfolding(crate::specs::NeededFiles::needed_name, crate::specs::NeededFiles::needed_name_fault))]
 fn name_at<'a>(table: &[u8], strings: &'a [u8], number: usize) -> Result<Option<&'a [u8]>, Fault>
     requires { dyn_size * (number + 1) ≤ length table.now }
     ensures judged { Settles result (needed_name_fault table.now strings.now number) }
@@ -51,7 +40,7 @@ fn name_at<'a>(table: &[u8], strings: &'a [u8], number: usize) -> Result<Option<
     if tag_at(table, number) != DT_NEEDED {
         return Ok(None);
     }
-    match text_at(strings, u64_in(table, DYN_SIZE * number + D_VAL)) {
+    match text_at(strings, value_at(table, number)) {
         Some(name) => Ok(Some(name)),
         None => Err(Fault {
             kind: FaultKind::DynamicTable,

@@ -10,13 +10,22 @@ use crate::file::ElfFile;
 use crate::symbols::strings::strings_for;
 use abi_base::{Fault, FaultKind, INPUT_LIMIT, text_at, u64_in};
 
-// The tag of the entry with this number.
+/// The tag of the entry with this number in a dynamic table (System V gABI, "Dynamic Section").
 #[tactic(auto, unfolding(crate::specs::symbols::Dynamic::tag_in))]
-fn tag_at(table: &[u8], number: usize) -> u64
+pub fn tag_at(table: &[u8], number: usize) -> u64
     requires { dyn_size * (number + 1) ≤ length table.now }
     ensures { result ≡ tag_in table.now number }
 {
     u64_in(table, DYN_SIZE * number + D_TAG)
+}
+
+/// The value of the entry with this number in a dynamic table (System V gABI, "Dynamic Section").
+#[tactic(auto, unfolding(crate::specs::symbols::Dynamic::value_in))]
+pub fn value_at(table: &[u8], number: usize) -> u64
+    requires { dyn_size * (number + 1) ≤ length table.now }
+    ensures { result ≡ value_in table.now number }
+{
+    u64_in(table, DYN_SIZE * number + D_VAL)
 }
 
 // The number of the entry with tag SONAME.
@@ -56,7 +65,7 @@ pub fn soname<'a>(file: &ElfFile<'a>) -> Result<Option<&'a [u8]>, Fault>
 }
 
 // The soname in a dynamic table, or the fault of its offset in the string table.
-#[tactic(auto, unfolding(crate::specs::symbols::Dynamic::soname_fault, crate::specs::symbols::Dynamic::value_in))]
+#[tactic(auto, unfolding(crate::specs::symbols::Dynamic::soname_fault))]
 fn soname_in<'a>(table: &[u8], strings: &'a [u8]) -> Result<Option<&'a [u8]>, Fault>
     ensures judged { Settles result (option_and_then (soname_fault table.now strings.now) (soname_entry table.now)) }
     ensures read { IfOk result (λ name. option_copied name
@@ -64,7 +73,7 @@ fn soname_in<'a>(table: &[u8], strings: &'a [u8]) -> Result<Option<&'a [u8]>, Fa
 {
     match soname_entry_in(table) {
         None => Ok(None),
-        Some(entry) => match text_at(strings, u64_in(table, DYN_SIZE * entry + D_VAL)) {
+        Some(entry) => match text_at(strings, value_at(table, entry)) {
             Some(name) => Ok(Some(name)),
             None => Err(Fault {
                 kind: FaultKind::DynamicTable,

@@ -6,6 +6,6 @@ mod strings;
 mod symbol;
 mod table;
 
-pub use dynamic::soname;
+pub use dynamic::{soname, tag_at, value_at};
 pub use symbol::Symbol;
 pub use table::symbols;

@@ -1,6 +1,7 @@
 use Rattle.std.proofs.Common.{◌≡◌, true, false, sym, ◌∙◌, arith}
 use Rattle.std.proofs.lemmas.Bool.Decides.{nat_tests}
-use Rattle.explain.specs.Programs.{is_used, has_flags}
+use Rattle.elf.specs.symbols.Dynamic.{is_used}
+use Rattle.explain.specs.Programs.{has_flags}
 use Rattle.explain.proofs.ProgramLemmas.{no_flags_here}
 use Rattle.explain.proofs.programs.flags_entry_in.Goals as goal
 
