@@ -7,8 +7,8 @@
 #   tests/edits.sh --since COMMIT     tries those of each crate whose code or definitions changed since the commit
 #   tests/edits.sh --all              tries all; it takes an hour of processor time or more
 #
-# It tries them on a copy of the crates, as many at a time as rt runs checks (RT_JOBS), writes what it saw to edits/SEEN.md, and fails if
-# an edit does not apply, does not compile, or is not refused.
+# It tries them on a copy of the crates, as many checks at a time as rt runs (RT_JOBS), writes what it saw to edits/SEEN.md, and fails
+# if an edit does not apply, does not compile, or is not refused. Edits that change the bodies of different functions share one check.
 set -euo pipefail
 title="wrong edits"
 tools="python3"

@@ -4,11 +4,13 @@ from __future__ import annotations
 
 import argparse
 import datetime
+import os
 import re
 import shutil
 import subprocess
 import sys
 import tempfile
+from concurrent.futures import ThreadPoolExecutor
 from dataclasses import dataclass
 from pathlib import Path
 from typing import Iterable
@@ -48,29 +50,52 @@ def all_edits() -> list[Edit]:
     return sorted(kept + in_gate, key=lambda edit: edit.name)
 
 
-def fault_of(edit: Edit) -> str | None:
-    """Why the edit cannot be applied to the sources of its crate, or None."""
-    texts: dict[str, str] = {}
-    path, old, pairs = "", "", 0
+@dataclass(frozen=True)
+class Change:
+    """One change of an edit: the source file below the crate's folder, its old text and the new one."""
+
+    path: str
+    old: str
+    new: str
+
+
+def changes_of(edit: Edit) -> list[Change]:
+    """The changes that the edit's file lists. A new text without a file or an old text before it gets empty ones."""
+    changes, path, old = [], "", ""
     for line in edit.path.read_text(encoding="utf-8").splitlines():
         word, _, rest = line.partition(": ")
         if word == "file":
             path = rest.strip()
-            source = ROOT / "crates" / edit.crate / path
-            if not path.startswith("src/") or not source.is_file():
-                return f"the crate has no file {path}"
-            texts.setdefault(path, source.read_text(encoding="utf-8"))
         elif word == "old":
             old = rest
         elif line.startswith("new:"):
-            if not path or not old:
-                return "a new text stands before the old one"
-            if (found := texts[path].count(old)) != 1:
-                return f"its old text is {found} times in {path}"
-            if old == rest:
-                return "it changes nothing"
-            texts[path], old, pairs = texts[path].replace(old, rest), "", pairs + 1
-    return None if pairs else "it has no old and new text"
+            changes.append(Change(path, old, rest))
+            old = ""
+    return changes
+
+
+def changed_texts(crate: Path, changes: Iterable[Change]) -> dict[str, str] | str:
+    """The sources of the crate in this folder after the changes, by their paths, or why one of them cannot be made."""
+    texts: dict[str, str] = {}
+    for change in changes:
+        if not change.path or not change.old:
+            return "a new text stands before the old one"
+        source = crate / change.path
+        if not change.path.startswith("src/") or not source.is_file():
+            return f"the crate has no file {change.path}"
+        text = texts.setdefault(change.path, source.read_text(encoding="utf-8"))
+        if (found := text.count(change.old)) != 1:
+            return f"its old text is {found} times in {change.path}"
+        if change.old == change.new:
+            return "it changes nothing"
+        texts[change.path] = text.replace(change.old, change.new)
+    return texts or "it has no old and new text"
+
+
+def fault_of(edit: Edit) -> str | None:
+    """Why the edit cannot be applied to the sources of its crate, or None."""
+    made = changed_texts(ROOT / "crates" / edit.crate, changes_of(edit))
+    return made if isinstance(made, str) else None
 
 
 def changed_since(revision: str) -> set[str]:
@@ -95,20 +120,140 @@ def results_in(said: str, edits: Iterable[Edit]) -> dict[str, str]:
     return results
 
 
-def tried(edits: list[Edit]) -> dict[str, str]:
-    """Tries the edits on a copy of the crates, as many at a time as rt runs checks, and gives the result of each by its name."""
-    with tempfile.TemporaryDirectory(prefix="abi-edits-") as folder:
-        for name in ("crates.txt", "HANDLES"):
-            shutil.copy(ROOT / name, folder)
-        shutil.copytree(ROOT / "crates", f"{folder}/crates", ignore=shutil.ignore_patterns("out", "must-fail"))
-        for edit in edits:
-            place = Path(folder, "crates", edit.crate, "must-fail")
-            place.mkdir(exist_ok=True)
-            shutil.copy(edit.path, place)
-        words = ["rt", "must-fail", *sorted({edit.crate for edit in edits})]
+@dataclass(frozen=True)
+class Function:
+    """A function of a source file with a contract of its own: its name, its first and last line, and the first line of its body, from 1."""
+
+    path: str
+    name: str
+    first: int
+    body: int
+    last: int
+
+    def fails_at(self, place: str) -> bool:
+        """Whether a place that a check names, `FILE:LINE`, lies in the function or in the proof that is written for it."""
+        path, _, line = place.rpartition(":")
+        if path == self.path:
+            return self.first <= int(line) <= self.last
+        module = re.sub(r"(/mod)?\.rt$", "/", self.path.removeprefix("src/"))
+        return path.startswith(f"proofs/{'' if module == 'lib/' else module}") and f"/{self.name}/" in path
+
+
+def functions_of(path: str, text: str) -> list[Function]:
+    """The functions with a contract of a source file that `rt fmt` has formatted."""
+    lines, found = text.split("\n"), []
+    for number, line in enumerate(lines, 1):
+        named = re.match(r"( *)(?:pub(?:\(crate\))? )?(?:const )?fn (\w+)", line)
+        if not named or line.rstrip().endswith("}"):
+            continue
+        last = next((at for at, it in enumerate(lines[number:], number + 1) if it == named[1] + "}"), None)
+        body = next((at for at, it in enumerate(lines[number:last], number + 1) if it == named[1] + "{"), None)
+        if last and body and any(it.strip().startswith("ensures") for it in lines[number:body]):
+            found.append(Function(path, named[2], number, body, last))
+    return found
+
+
+def bodies_of(crate: Path, edit: Edit) -> frozenset[Function]:
+    """The functions whose bodies alone the edit changes; none if it also changes what lies outside of one."""
+    found: set[Function] = set()
+    for change in changes_of(edit):
+        text = (crate / change.path).read_text(encoding="utf-8")
+        line = text[: text.index(change.old)].count("\n") + 1
+        within = [it for it in functions_of(change.path, text) if it.body < line < it.last]
+        if not within or "fn " in change.old + change.new:
+            return frozenset()
+        found.add(within[-1])
+    return frozenset(found)
+
+
+def batches_of(crate: Path, edits: list[Edit]) -> list[dict[Edit, frozenset[Function]]]:
+    """Edits that one check can refuse, each by itself: they change the bodies of different functions, and a function is checked
+    against the contracts of the others. An edit of anything else stands in none."""
+    batches: list[dict[Edit, frozenset[Function]]] = []
+    for edit in edits:
+        if not (bodies := bodies_of(crate, edit)):
+            continue
+        free = [it for it in batches if not any(bodies & other for other in it.values())]
+        if not free:
+            batches.append({})
+        (free or batches)[0 if free else -1][edit] = bodies
+    return [it for it in batches if len(it) > 1]
+
+
+# A place at which a check says that something is not proved: in a source, or in a proof that is written for one.
+UNPROVED = re.compile(r"^(?:so far: )?(?:note: )?(?:\./)?(?:(src/\S+?:\d+):\d+: it is not proved|(proofs/\S+?:\d+):\d+: error)", re.MULTILINE)
+# What a check says of a source that it cannot read.
+UNREAD = re.compile(r"^(?:so far: )?(?:\./)?src/\S+: error", re.MULTILINE)
+
+
+def places_in(said: str) -> set[str]:
+    """The places, `FILE:LINE`, at which a check says that something is not proved."""
+    return {source or proof for source, proof in UNPROVED.findall(said)}
+
+
+def refused_in(batch: dict[Edit, frozenset[Function]], said: str) -> set[str]:
+    """The names of the edits of a batch that the check refuses: in each of their functions something is not proved. None, if
+    something else is not proved, or if an edit cannot be read."""
+    places = places_in(said)
+    functions = frozenset().union(*batch.values())
+    if "logic=not-proved" not in said or UNREAD.search(said) or not all(any(it.fails_at(place) for it in functions) for place in places):
+        return set()
+    return {edit.name for edit, bodies in batch.items() if all(any(it.fails_at(place) for place in places) for it in bodies)}
+
+
+def tried_together(folder: Path, edits: list[Edit]) -> set[str]:
+    """Tries edits of one crate on the copy, several in each check, and gives the names of those that are refused."""
+    crate = folder / "crates" / edits[0].crate
+    refused: set[str] = set()
+    for batch in batches_of(crate, edits):
+        made = changed_texts(crate, [change for edit in batch for change in changes_of(edit)])
+        if isinstance(made, str):
+            continue
+        kept = {path: (crate / path).read_text(encoding="utf-8") for path in made}
+        for path, text in made.items():
+            (crate / path).write_text(text, encoding="utf-8")
+        words = ["rt", "check", crate.name, "--jobs", "1"]
         ended = subprocess.run(words, cwd=folder, stdin=subprocess.DEVNULL, stdout=subprocess.PIPE, stderr=subprocess.STDOUT, text=True, check=False)
-    print(ended.stdout, end="")
+        for path, text in kept.items():
+            (crate / path).write_text(text, encoding="utf-8")
+        names = refused_in(batch, ended.stdout)
+        print(f"{crate.name}: {len(names)} of {len(batch)} edits were refused in one check", flush=True)
+        refused |= names
+    return refused
+
+
+def copied(folder: Path) -> None:
+    """Copies the crates into the folder, without what checks made and without edits."""
+    for name in ("crates.txt", "HANDLES"):
+        shutil.copy(ROOT / name, folder)
+    shutil.copytree(ROOT / "crates", folder / "crates", ignore=shutil.ignore_patterns("out", "must-fail"))
+
+
+def tried_alone(folder: Path, edits: list[Edit]) -> dict[str, str]:
+    """Tries edits on the copy, each in a check of its own, and gives the result of each by its name."""
+    for edit in edits:
+        place = folder / "crates" / edit.crate / "must-fail"
+        place.mkdir(exist_ok=True)
+        shutil.copy(edit.path, place)
+    words = ["rt", "must-fail", *sorted({edit.crate for edit in edits})]
+    ended = subprocess.run(words, cwd=folder, stdin=subprocess.DEVNULL, stdout=subprocess.PIPE, stderr=subprocess.STDOUT, text=True, check=False)
+    print(ended.stdout, end="", flush=True)
     return results_in(ended.stdout, edits)
+
+
+def tried(edits: list[Edit]) -> dict[str, str]:
+    """Tries the edits on a copy of the crates, as many checks at a time as rt runs, and gives the result of each by its name."""
+    crates: dict[str, list[Edit]] = {}
+    for edit in edits:
+        crates.setdefault(edit.crate, []).append(edit)
+    with tempfile.TemporaryDirectory(prefix="abi-edits-") as name:
+        folder = Path(name)
+        copied(folder)
+        with ThreadPoolExecutor(int(os.environ.get("RT_JOBS") or os.cpu_count() or 1)) as pool:
+            refused = set().union(*pool.map(lambda of_crate: tried_together(folder, of_crate), crates.values()))
+        results = {name: "refused" for name in refused}
+        alone = [edit for edit in edits if edit.name not in refused]
+        return results | (tried_alone(folder, alone) if alone else {})
 
 
 def rows_of_table() -> dict[str, str]:
