@@ -4,7 +4,7 @@ use Rattle.abi_base.specs.Limits.{input_limit}
 use Rattle.abi_top.specs.Answer.{row_of}
 use Rattle.abi_top.specs.Rows.App.{AppSays}
 use Rattle.abi_top.specs.OneAnswer.{AnswersAlike, VerdictsAlike}
-use Rattle.abi_top.proofs.ParsedArguments.{reply_of}
+use Rattle.abi_top.proofs.lemmas.ParsedArguments.{reply_of}
 use Rattle.cert_check.specs.Compatible.{Sides, IsCompatible}
 use Rattle.cli_args.specs.Commands.{PlainRequest, app}
 use Rattle.commands.specs.declared.outcome.Outcome.TheVariants.{Judged}

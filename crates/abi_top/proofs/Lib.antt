@@ -1,6 +1,6 @@
 mod Alike
 mod Limits
-mod ParsedArguments
 mod Printed
 mod Rows
 mod Single
+pub mod lemmas

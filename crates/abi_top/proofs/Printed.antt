@@ -5,7 +5,7 @@ use Rattle.abi_top.specs.Answer.{row_of}
 use Rattle.abi_top.specs.Rows.Verify.{VerifySays, verify_says}
 use Rattle.abi_top.specs.OneAnswer.{AcceptsWhatCheckPrints}
 use Rattle.abi_top.specs.Text.{accepted_text}
-use Rattle.abi_top.proofs.ParsedArguments.{reply_of}
+use Rattle.abi_top.proofs.lemmas.ParsedArguments.{reply_of}
 use Rattle.cert_check.specs.declared.refused.Refused.{Refused as Refusal}
 use Rattle.cli_args.specs.Commands.{PlainRequest, check, verify}
 use Rattle.commands.specs.Commands.{asks_of}

@@ -3,7 +3,7 @@ use Rattle.std.proofs.Common.{◌≡◌, ◌≢◌, ℕ, List, codes, refl, subs
 use Rattle.abi_top.specs.Answer.{Answers, row_of}
 use Rattle.abi_top.specs.Calls.{Call}
 use Rattle.abi_top.specs.OneAnswer.{OneAnswer}
-use Rattle.abi_top.proofs.ParsedArguments.{asks_help, asks_usage, asks_version, reply_of}
+use Rattle.abi_top.proofs.lemmas.ParsedArguments.{asks_help, asks_usage, asks_version, reply_of}
 use Rattle.abi_top.proofs.Rows.{HaveOneText, says_one}
 use Rattle.cli_args.specs.Commands.{usage_text}
 use Rattle.cli_args.specs.ParsedArguments.{usage, help, version, arguments_by}

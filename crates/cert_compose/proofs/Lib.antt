@@ -9,7 +9,6 @@ mod LossLemmas
 mod JudgeLemmas
 mod BindLemmas
 mod MadeLemmas
-mod OneList
 mod OneCert
 mod FirstLost
 mod FittingLemmas

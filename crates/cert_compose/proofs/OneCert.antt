@@ -5,7 +5,7 @@ use Rattle.std.proofs.lemmas.Cmp.{nat_cmp_total, on_total}
 use Rattle.cert_text.specs.Certs.{PlainCert, PairLine, first_cmp}
 use Rattle.cert_compose.specs.Chains.{PlainChain}
 use Rattle.cert_compose.specs.Composed.{IsComposed}
-use Rattle.cert_compose.proofs.OneList.{one_list}
+use Rattle.cert_check.proofs.lemmas.OneList.{one_list}
 use Rattle.cert_compose.proofs.OrderLemmas.{line_total}
 
 first_total : IsTotalOrder first_cmp

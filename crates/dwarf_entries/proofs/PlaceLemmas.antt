@@ -125,9 +125,6 @@ signature_number q (Some s) = refl
 
 -- ---- one number
 
-or_none : (o : Option ℕ) → o ≡ option_or o None
-or_none o = sym (or_nothing o)
-
 pub first_kept : (old next : Places) (number place : ℕ) (there : Bool) → there ≡ is_some (place_under old number) → there ≡ false
     → ((q : ℕ) → place_under next q ≡ cond (number == q) (Some place) (place_under old q))
     → (q : ℕ) → place_under next q ≡ option_or (place_under old q) (if number == q then Some place else None)
@@ -136,7 +133,7 @@ first_kept old next number place there is none adds q =
       | inl same ↦ let e : number ≡ q = eqb-true number q same in
           let here : place_under old q ≡ None = subst (λ (n : ℕ). place_under old n ≡ None) e (absent (place_under old number) there is none) in
           rw (same, here) refl
-      | inr apart ↦ rw apart (or_none (place_under old q))
+      | inr apart ↦ rw apart (sym (or_nothing (place_under old q)))
     ]
 
 found_there : (o : Option ℕ) (b : Bool) → b ≡ is_some o → b ≡ true → (place : ℕ) → o ≡ option_or o (Some place)
@@ -149,5 +146,5 @@ first_stays old number place there is some q =
     elim (cases_Bool (number == q)) [
       | inl same ↦ let e : number ≡ q = eqb-true number q same in
           rw same (subst (λ (n : ℕ). place_under old n ≡ option_or (place_under old n) (Some place)) e (found_there (place_under old number) there is some place))
-      | inr apart ↦ rw apart (or_none (place_under old q))
+      | inr apart ↦ rw apart (sym (or_nothing (place_under old q)))
     ]

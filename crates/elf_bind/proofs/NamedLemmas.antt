@@ -17,6 +17,7 @@ use Rattle.abi_types.specs.Names.{IsNamed, AreNamed, name_at}
 use Rattle.abi_types.specs.Versions.{IsVersioned, AreVersioned}
 use Rattle.elf_bind.specs.Binding.{is_named, has_version, has_first_version, is_default_version}
 use Rattle.elf_bind.specs.Exports.{same_name}
+use Rattle.elf_bind.proofs.lemmas.Names.{same_version, version_from_same}
 use Rattle.elf_bind.specs.Named.{passes_at, some_version_among, some_version_of, bind_unversioned, AreAnswers}
 
 pub ruleset reads = (slice_get-map)
@@ -250,18 +251,6 @@ module _ (offered : List PlainExport) (name : List ℕ) where
   binds_otherwise None None other is none found = found ∙ rw (← is) refl
 
 -- ---- the exports of one name and one version
-
-same_version : (a b : Option (List ℕ)) → a ≡ b → same_name a b ≡ true
-same_version None None e = refl
-same_version None (Some y) e = cc
-same_version (Some x) None e = cc
-same_version (Some x) (Some y) e = (bytes_eq-Decides x y).1 (same_Some x y e)
-
-version_from_same : (a b : Option (List ℕ)) → same_name a b ≡ true → a ≡ b
-version_from_same None None e = refl
-version_from_same None (Some y) e = cc
-version_from_same (Some x) None e = cc
-version_from_same (Some x) (Some y) e = ap Some ((bytes_eq-Decides x y).0 e)
 
 module _ (exports : List PlainExport) (name : List ℕ) (version : Option (List ℕ)) (places : List ℕ) (are : AreVersioned exports name version places) where
   versioned_places : places ≡ places_from (has_version name version) 0 exports

@@ -7,11 +7,9 @@ use Rattle.std.specs.List.{list_any}
 use Rattle.std.specs.Ordering.{is_eq}
 use Rattle.std.specs.Str.{bytes_eq}
 use Rattle.std.proofs.lemmas.List.Folds.{list_any-append}
-use Rattle.std.proofs.lemmas.Slice.Eq.{bytes_eq-Decides}
 use Rattle.std.proofs.lemmas.Grind.{common_steps}
 use Rattle.abi_base.proofs.lemmas.Bools.{cond_last}
 use Rattle.abi_base.proofs.lemmas.Lists.{take-map_more, drop-map_more}
-use Rattle.abi_base.proofs.lemmas.Cases.{bool_cases}
 use Rattle.abi_base.specs.declared.fault.FaultKind.TheVariants as kind
 use Rattle.abi_base.specs.Outcome.{fault_if, first}
 use Rattle.abi_types.specs.declared.export.Export.{Export}
@@ -21,14 +19,7 @@ use Rattle.elf_bind.specs.Exports.{duplicate_faults, is_same, same_name}
 use Rattle.elf_bind.specs.EarlierExports.{Names, Versioned, has_code, has_code_version, has_name, has_version, is_like, EarlierExports}
 use Rattle.elf_bind.specs.NameOrder.{code_of, name_cmp, version_cmp}
 use Rattle.elf_bind.proofs.NameOrderLemmas.{same_name_where_equal, same_version_where_equal}
-
-same_names : (a b : List ℕ) → bytes_eq a b ≡ true → bytes_eq b a ≡ true
-same_names a b same = (bytes_eq-Decides b a).1 (sym ((bytes_eq-Decides a b).0 same))
-
-turned : (a b : List ℕ) → bytes_eq a b ≡ bytes_eq b a
-turned a b =
-    bool_cases (bytes_eq a b) (λ same. same ∙ sym (same_names a b same)) (λ apart.
-    bool_cases (bytes_eq b a) (λ same. absurd (let h = same_names b a same in cc)) (λ other. apart ∙ sym other))
+use Rattle.elf_bind.proofs.lemmas.Names.{turned}
 
 not_not : (b : Bool) → not (not b) ≡ b
 not_not true = refl

@@ -1,46 +1,24 @@
 -- The set of names, and tests that pass a name of it.
 use Rattle.std.proofs.Common.{◌≡◌, ℕ, Bool, true, cond, List, [], ◌∷◌, ◌++◌, refl, sym, ◌∙◌, ap, inl, inr}
-use Rattle.std.specs.Prelude.{◌&&◌, ◌==◌, if◌then◌else◌}
+use Rattle.std.specs.Prelude.{◌==◌}
 use Rattle.std.specs.Borrow.{Bor}
 use Rattle.std.specs.BTreeSet.{contains_by}
-use Rattle.std.specs.Cmp.{both_tied, unsigned_ties}
-use Rattle.std.specs.Cmp.Lexicographic.{slice_cmp}
 use Rattle.std.specs.List.{list_any}
-use Rattle.std.specs.Ordering.{is_eq, nat_cmp}
+use Rattle.std.specs.Ordering.{is_eq}
 use Rattle.std.specs.Str.{bytes_eq}
 use Rattle.std.proofs.lemmas.Bool.{and_parts, cases_Bool, eqb-true}
 use Rattle.std.proofs.lemmas.List.Folds.{list_any-append}
-use Rattle.std.proofs.lemmas.Map.Text.{is_eq-slice_cmp}
 use Rattle.std.proofs.lemmas.Slice.Eq.{bytes_eq-Decides}
-use Rattle.abi_types.specs.declared.kind.LabelKind.{LabelKind}
-use Rattle.abi_types.specs.declared.kind.LabelKind.TheVariants.{Structure, Union, Enumeration, Typedef, Builtin}
 use Rattle.abi_types.specs.Types.{PlainLabel}
-use Rattle.idle_sections.specs.Names.{Seen, kind_number, AreSeen}
+use Rattle.idle_sections.specs.Names.{Seen, AreSeen}
 use Rattle.abi_types.proofs.lemmas.Records.{one_label}
-use Rattle.suppressions.specs.Known.{name_cmp}
+use Rattle.suppressions.specs.Known.{kind_number, name_cmp}
+use Rattle.suppressions.proofs.lemmas.Names.{equal_names, one_kind}
 
 -- ---- names as keys
 
 abbrev key : PlainLabel → ℕ × Bor (List ℕ)
 key l = (kind_number l.kind, record { ref_ptr = (0, 0); now = l.name })
-
-abbrev kind_of : ℕ → LabelKind
-kind_of n = if n == 0 then Structure else if n == 1 then Union else if n == 2 then Enumeration else if n == 3 then Typedef else Builtin
-
-kind_is : (k : LabelKind) → kind_of (kind_number k) ≡ k
-kind_is Structure = refl
-kind_is Union = refl
-kind_is Enumeration = refl
-kind_is Typedef = refl
-kind_is Builtin = refl
-
--- kinds with equal numbers are equal
-one_kind : (j k : LabelKind) → kind_number j ≡ kind_number k → j ≡ k
-one_kind j k e = sym (kind_is j) ∙ ap kind_of e ∙ kind_is k
-
--- a kind with a name compares equal exactly to the same kind with the same name
-equal_names : (n : ℕ) (name : List ℕ) (m : ℕ) (other : List ℕ) → (n == m && bytes_eq name other) ≡ is_eq (name_cmp n name m other)
-equal_names n name m other = both_tied (n == m) (bytes_eq name other) (nat_cmp n m) (slice_cmp nat_cmp name other) (unsigned_ties n m) (sym (is_eq-slice_cmp name other))
 
 -- the key has this number and this name
 abbrev is_key : ℕ → List ℕ → ℕ × Bor (List ℕ) → Bool

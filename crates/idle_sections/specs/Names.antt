@@ -3,17 +3,8 @@ use Rattle.std.specs.Prelude.{◌≡◌, ℕ, Bool, true, List}
 use Rattle.std.specs.Borrow.{Bor}
 use Rattle.std.specs.BTreeSet.{BTreeSet, contains_by}
 use Rattle.std.specs.List.{list_any}
-use Rattle.abi_types.specs.declared.kind.LabelKind.{LabelKind}
-use Rattle.abi_types.specs.declared.kind.LabelKind.TheVariants.{Structure, Union, Enumeration, Typedef, Builtin}
 use Rattle.abi_types.specs.Types.{PlainLabel}
-use Rattle.suppressions.specs.Known.{name_cmp}
-
-abbrev pub kind_number : LabelKind → ℕ
-kind_number Structure = 0
-kind_number Union = 1
-kind_number Enumeration = 2
-kind_number Typedef = 3
-kind_number Builtin = 4
+use Rattle.suppressions.specs.Known.{kind_number, name_cmp}
 
 -- a set of the kinds and the names of labels
 abbrev pub Seen : Type 0

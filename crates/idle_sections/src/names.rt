@@ -3,25 +3,13 @@ ghost use Rattle.std.specs.Prelude.{◌≡◌, ◌≤◌, ◌+◌, ◌∷◌, �
 ghost use Rattle.abi_base.specs.declared.fault.NoMemory.TheVariants.{Allocation};
 ghost use Rattle.abi_types.specs.Plain.{plain_label};
 ghost use Rattle.idle_sections.specs.Idle.{all_labels, label_count};
-ghost use Rattle.idle_sections.specs.Names as spec;
 ghost use Rattle.idle_sections.specs.Names.{is_seen, AreAlike, AreSeen};
 
 use abi_base::NoMemory;
-use abi_types::{Graph, Index, Label, LabelKind, OldIx};
+use abi_types::{Graph, Index, Label, OldIx};
 use std::alloc::Global;
 use std::collections::BTreeSet;
-
-fn kind_number(kind: LabelKind) -> u8
-    ensures { result ≡ spec.kind_number kind }
-{
-    match kind {
-        LabelKind::Structure => 0,
-        LabelKind::Union => 1,
-        LabelKind::Enumeration => 2,
-        LabelKind::Typedef => 3,
-        LabelKind::Builtin => 4,
-    }
-}
+use suppressions::kind_number;
 
 // Whether a name is in the set.
 fn was_seen<'x>(seen: &BTreeSet<(u8, &'x [u8])>, label: &Label<'x>) -> bool

@@ -1,5 +1,5 @@
 -- What was seen, one after another, and what of it is new.
-use Rattle.std.proofs.Common.{◌≡◌, ◌<◌, ◌+◌, ◌∙◌, ℕ, zero, suc, Bool, true, false, cond, not, ◌&&◌, ◌||◌, if◌then◌else◌, List, [], ◌∷◌, ◌++◌, length, take, get_or, Some, refl, sym, ap, arith, inl, inr}
+use Rattle.std.proofs.Common.{◌≡◌, ◌<◌, ◌+◌, ◌∙◌, ℕ, Bool, true, false, cond, not, ◌&&◌, ◌||◌, if◌then◌else◌, List, [], ◌∷◌, ◌++◌, length, take, get_or, Some, refl, sym, ap, arith, inl, inr}
 use Rattle.std.specs.Prelude.{slice_get}
 use Rattle.std.specs.Borrow.{Bor}
 use Rattle.std.specs.Cmp.{both_tied}
@@ -15,6 +15,7 @@ use Rattle.std.proofs.lemmas.Map.Text.{is_eq-slice_cmp}
 use Rattle.abi_base.proofs.lemmas.Lists.{slice_get_last, slice_get-before}
 use Rattle.abi_base.proofs.lemmas.Ranges.{below_more}
 use Rattle.abi_base.proofs.lemmas.Bools.{not_is_true, not_is_false}
+use Rattle.new_needs.proofs.lemmas.Ranges.{flat_map-same}
 use Rattle.new_needs.specs.declared.kept.Needed.{Needed}
 use Rattle.new_needs.specs.Lacking.{is_among, is_named, kept_if_new, lacking, lacking_at}
 use Rattle.new_needs.specs.Needed.{PlainNeeded}
@@ -22,11 +23,6 @@ use Rattle.new_needs.specs.Plain.{plain_all, plain_needed}
 use Rattle.new_needs.specs.Seen.{AreSeen, SeenSet, has_seen, names_cmp}
 
 -- ---- one more of the new list
-
-flat_map-same : {X : Type 0} (f g : ℕ → List X) (a n : ℕ) → ((k : ℕ) → k < a + n → f k ≡ g k) → flat_map f (range_with_len a n) ≡ flat_map g (range_with_len a n)
-flat_map-same f g a zero same = refl
-flat_map-same f g a (suc n) same =
-    ap (λ (xs : List _). xs ++ flat_map f (range_with_len (a + 1) n)) (same a (omega arith)) ∙ ap (λ (xs : List _). g a ++ xs) (flat_map-same f g (a + 1) n (λ k lt. same k (omega arith)))
 
 module _ (old xs : List PlainNeeded) (x : PlainNeeded) where
   front : (i : ℕ) → i < length xs → lacking_at old (xs ++ x ∷ []) i ≡ lacking_at old xs i

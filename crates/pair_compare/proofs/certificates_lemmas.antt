@@ -1,7 +1,6 @@
 pub mod BindLemmas
 pub mod ListLemmas
 pub mod Orders
-pub mod OneList
 pub mod Leasts
 pub mod AlikeLemmas
 pub mod FoundLemmas

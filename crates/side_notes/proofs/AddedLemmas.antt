@@ -1,11 +1,11 @@
 -- The exports that a library does not have, one after another.
-use Rattle.std.proofs.Common.{◌≡◌, ℕ, Bool, true, false, List, [], ◌∷◌, length, Option, None, Some, refl, sym, ◌∙◌, ap, inl, inr}
+use Rattle.std.proofs.Common.{◌≡◌, ℕ, Bool, true, false, List, [], ◌∷◌, length, Option, Some, refl, sym, ◌∙◌, ap, inl, inr}
 use Rattle.std.specs.Prelude.{◌==◌, not, flat_map, slice_get}
 use Rattle.std.specs.List.{list_any}
 use Rattle.std.proofs.Math.Dec.{eqb-suc-zero}
 use Rattle.std.proofs.lemmas.Bool.{cases_Bool, and_parts}
 use Rattle.std.proofs.lemmas.List.Folds.{flat_map-map, Any-from_list_any, list_any_at}
-use Rattle.std.proofs.lemmas.Option.{same_Some, slice_get_within, get_or_from_slice_get, slice_get-get_or}
+use Rattle.std.proofs.lemmas.Option.{slice_get_within, get_or_from_slice_get, slice_get-get_or}
 use Rattle.std.proofs.lemmas.Slice.Eq.{bytes_eq-Decides}
 use Rattle.abi_base.proofs.lemmas.Bools.{and_of_true}
 use Rattle.abi_base.proofs.lemmas.Contained.{at_front, in_none}
@@ -15,6 +15,7 @@ use Rattle.abi_types.specs.Plain.{plain_export, plain_exports}
 use Rattle.abi_types.specs.Versions.{AreVersioned}
 use Rattle.elf_bind.specs.Binding.{has_version, is_named}
 use Rattle.elf_bind.specs.Exports.{same_name}
+use Rattle.elf_bind.proofs.lemmas.Names.{same_version, version_from_same}
 use Rattle.type_notes.specs.declared.note.Note.{Note}
 use Rattle.side_notes.specs.Added.{added_note, added_notes, has_export, notes_if_added}
 
@@ -33,18 +34,6 @@ pub added_each : (old : List PlainExport) (es : List Export) (plain : List Plain
 added_each old es plain is = sym (flat_map-map (notes_if_added old) plain_export es) ∙ ap (flat_map (notes_if_added old)) is ∙ added_all old plain
 
 -- ---- whether an export is among those of a name and a version
-
-same_version : (a b : Option (List ℕ)) → a ≡ b → same_name a b ≡ true
-same_version None None e = refl
-same_version None (Some y) e = cc
-same_version (Some x) None e = cc
-same_version (Some x) (Some y) e = (bytes_eq-Decides x y).1 (same_Some x y e)
-
-version_from_same : (a b : Option (List ℕ)) → same_name a b ≡ true → a ≡ b
-version_from_same None None e = refl
-version_from_same None (Some y) e = cc
-version_from_same (Some x) None e = cc
-version_from_same (Some x) (Some y) e = ap Some ((bytes_eq-Decides x y).0 e)
 
 none_there : (exports : List PlainExport) (name : List ℕ) (version : Option (List ℕ)) → AreVersioned exports name version [] → list_any (has_version name version) exports ≡ false
 none_there exports name version are = elim (cases_Bool (list_any (has_version name version) exports)) [

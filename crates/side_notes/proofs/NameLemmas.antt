@@ -9,8 +9,8 @@ use Rattle.std.specs.Str.{bytes_eq}
 use Rattle.std.proofs.lemmas.List.{map-append}
 use Rattle.std.proofs.lemmas.List.Folds.{list_any-append}
 use Rattle.std.proofs.lemmas.Map.Text.{is_eq-slice_cmp}
-use Rattle.std.proofs.lemmas.Slice.Eq.{bytes_eq-Decides}
-use Rattle.abi_base.proofs.lemmas.Bools.{or_false, same_tests}
+use Rattle.abi_base.proofs.lemmas.Bools.{or_false}
+use Rattle.elf_bind.proofs.lemmas.Names.{turned}
 use Rattle.pair_rules.proofs.lemmas.Truths.{cond_or}
 use Rattle.side_notes.specs.VersionNames.{AreNamed, NameTree, has_name}
 
@@ -19,11 +19,6 @@ bytes_at v = v.now
 
 abbrev key : List ℕ → Bor (List ℕ)
 key q = record { ref_ptr = (0, 0); now = q }
-
--- equal letters are equal both ways
-turned : (a b : List ℕ) → bytes_eq a b ≡ bytes_eq b a
-turned a b =
-    same_tests (bytes_eq a b) (bytes_eq b a) (λ same. (bytes_eq-Decides b a).1 (sym ((bytes_eq-Decides a b).0 same))) (λ same. (bytes_eq-Decides a b).1 (sym ((bytes_eq-Decides b a).0 same)))
 
 -- a name that is put into the tree, and stands last in the list
 pub AreNamed-more : (known next : NameTree) (names : List (List ℕ)) (v : List ℕ) → AreNamed known names

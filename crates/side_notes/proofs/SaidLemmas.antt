@@ -1,5 +1,5 @@
 -- Notes that say the same as none before them, one note after another.
-use Rattle.std.proofs.Common.{◌≡◌, ◌<◌, ◌+◌, ◌∙◌, ℕ, zero, suc, Bool, true, false, cond, not, ◌&&◌, ◌||◌, if◌then◌else◌, List, [], ◌∷◌, ◌++◌, length, take, Some, refl, sym, ap, subst, arith, inl, inr}
+use Rattle.std.proofs.Common.{◌≡◌, ◌<◌, ◌+◌, ◌∙◌, ℕ, Bool, true, false, cond, not, ◌&&◌, ◌||◌, if◌then◌else◌, List, [], ◌∷◌, ◌++◌, length, take, Some, refl, sym, ap, subst, arith, inl, inr}
 use Rattle.std.specs.Prelude.{filter, slice_get, Vec}
 use Rattle.std.specs.Cmp.{both_tied}
 use Rattle.std.specs.Cmp.Lexicographic.{slice_cmp}
@@ -17,17 +17,13 @@ use Rattle.std.proofs.lemmas.Option.{slice_get_within}
 use Rattle.std.proofs.lemmas.Slice.Eq.{bytes_eq-Decides}
 use Rattle.abi_base.proofs.lemmas.Lists.{slice_get_last, slice_get-before}
 use Rattle.abi_base.proofs.lemmas.Ranges.{below_more}
+use Rattle.new_needs.proofs.lemmas.Ranges.{flat_map-same}
 use Rattle.abi_base.proofs.lemmas.Bools.{not_is_true, not_is_false, and_is_true, or_false, and_left_true}
 use Rattle.type_notes.specs.declared.note.Note.{Note}
 use Rattle.side_notes.specs.SaidOnce.{AreSaid, NameSet, has_names, has_said, is_said, kept_at, kept_if_new, names_cmp, names_none, names_types, said_once, say_same}
 use Rattle.pair_rules.proofs.lemmas.Truths.{cond_or}
 
 -- ---- one note more
-
-flat_map-same : {X : Type 0} (f g : ℕ → List X) (a n : ℕ) → ((k : ℕ) → k < a + n → f k ≡ g k) → flat_map f (range_with_len a n) ≡ flat_map g (range_with_len a n)
-flat_map-same f g a zero same = refl
-flat_map-same f g a (suc n) same =
-    ap (λ (xs : List _). xs ++ flat_map f (range_with_len (a + 1) n)) (same a (omega arith)) ∙ ap (λ (xs : List _). g a ++ xs) (flat_map-same f g (a + 1) n (λ k lt. same k (omega arith)))
 
 kept-front : (xs : List Note) (x : Note) (n : ℕ) → n < length xs → kept_at (xs ++ x ∷ []) n ≡ kept_at xs n
 kept-front xs x n lt = ap (λ before. kept_if_new before (slice_get (xs ++ x ∷ []) n)) (take-append-le n xs (x ∷ []) (omega arith)) ∙ ap (kept_if_new (take n xs)) (slice_get-before xs (x ∷ []) n lt)

@@ -7,3 +7,4 @@ mod UnnamedLemmas
 mod FlagLemmas
 mod WeightLemmas
 mod CrowdLemmas
+pub mod lemmas

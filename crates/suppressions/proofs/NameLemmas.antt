@@ -1,61 +1,26 @@
 -- The map that keeps how names are marked.
-use Rattle.std.proofs.Common.{◌≡◌, ℕ, Bool, cond, List, Option, Some, refl, sym, ◌∙◌, ap}
-use Rattle.std.specs.Prelude.{◌&&◌, ◌==◌}
+use Rattle.std.proofs.Common.{◌≡◌, ℕ, Bool, cond, List, Option, Some, sym, ◌∙◌, ap}
+use Rattle.std.specs.Prelude.{◌==◌}
 use Rattle.std.specs.Borrow.{Bor}
 use Rattle.std.specs.BTreeMap.{get_by}
-use Rattle.std.specs.Cmp.{both_tied, unsigned_ties}
-use Rattle.std.specs.Cmp.Lexicographic.{slice_cmp}
-use Rattle.std.specs.Ordering.{is_eq, nat_cmp}
+use Rattle.std.specs.Ordering.{is_eq}
 use Rattle.std.specs.Str.{bytes_eq}
 use Rattle.std.proofs.lemmas.Bool.{and_parts, eqb-true}
-use Rattle.std.proofs.lemmas.Map.Text.{is_eq-slice_cmp}
 use Rattle.std.proofs.lemmas.Slice.Eq.{bytes_eq-Decides}
 use Rattle.abi_base.proofs.lemmas.Cases.{bool_cases}
 use Rattle.abi_types.specs.declared.kind.LabelKind.{LabelKind}
-use Rattle.abi_types.specs.declared.kind.LabelKind.TheVariants.{Structure, Union, Enumeration, Typedef, Builtin}
 use Rattle.abi_types.specs.Types.{PlainLabel}
 use Rattle.suppression_text.specs.Rules.{PlainSection}
 use Rattle.suppressions.specs.declared.accessed_through.MarkedByWay.{MarkedByWay}
+use Rattle.suppressions.proofs.lemmas.Names.{equal_names, one_kind}
 use Rattle.suppressions.specs.Known.{Known, kind_number, name_cmp, name_ways, IsKnown}
 use Rattle.abi_types.proofs.lemmas.Records.{one_label}
 
 abbrev key : LabelKind → List ℕ → ℕ × Bor (List ℕ)
 key kind name = (kind_number kind, record { ref_ptr = (0, 0); now = name })
 
--- kinds with equal numbers are equal
-one_kind : (j k : LabelKind) → kind_number j ≡ kind_number k → j ≡ k
-one_kind Structure Structure e = refl
-one_kind Structure Union e = cc
-one_kind Structure Enumeration e = cc
-one_kind Structure Typedef e = cc
-one_kind Structure Builtin e = cc
-one_kind Union Structure e = cc
-one_kind Union Union e = refl
-one_kind Union Enumeration e = cc
-one_kind Union Typedef e = cc
-one_kind Union Builtin e = cc
-one_kind Enumeration Structure e = cc
-one_kind Enumeration Union e = cc
-one_kind Enumeration Enumeration e = refl
-one_kind Enumeration Typedef e = cc
-one_kind Enumeration Builtin e = cc
-one_kind Typedef Structure e = cc
-one_kind Typedef Union e = cc
-one_kind Typedef Enumeration e = cc
-one_kind Typedef Typedef e = refl
-one_kind Typedef Builtin e = cc
-one_kind Builtin Structure e = cc
-one_kind Builtin Union e = cc
-one_kind Builtin Enumeration e = cc
-one_kind Builtin Typedef e = cc
-one_kind Builtin Builtin e = refl
-
 same_some : (x y : MarkedByWay) → Some x ≡ Some y → x ≡ y
 same_some x y e = cc
-
--- a kind with a name compares equal exactly to the same kind with the same name
-equal_names : (n : ℕ) (name : List ℕ) (m : ℕ) (other : List ℕ) → (n == m && bytes_eq name other) ≡ is_eq (name_cmp n name m other)
-equal_names n name m other = both_tied (n == m) (bytes_eq name other) (nat_cmp n m) (slice_cmp nat_cmp name other) (unsigned_ties n m) (sym (is_eq-slice_cmp name other))
 
 -- the key has this number and this name
 abbrev names : ℕ → List ℕ → ℕ × Bor (List ℕ) → Bool

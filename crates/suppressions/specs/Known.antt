@@ -13,6 +13,7 @@ use Rattle.suppression_text.specs.Rules.{PlainSection}
 use Rattle.suppressions.specs.declared.accessed_through.MarkedByWay.{MarkedByWay}
 use Rattle.suppressions.specs.Meaning.{marks_name, marks_names}
 
+-- the number of a kind of names
 abbrev pub kind_number : LabelKind → ℕ
 kind_number Structure = 0
 kind_number Union = 1

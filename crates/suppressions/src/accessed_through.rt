@@ -22,7 +22,8 @@ pub struct MarkedByWay {
     pub pointer: bool,
 }
 
-fn kind_number(kind: LabelKind) -> u8
+/// The number of a kind of names, from 0: search trees of names keep a name under its kind.
+pub fn kind_number(kind: LabelKind) -> u8
     ensures { result ≡ known_spec.kind_number kind }
 {
     match kind {

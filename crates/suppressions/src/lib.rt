@@ -15,5 +15,6 @@ pub mod ready_section;
 pub mod subject;
 mod weight;
 
+pub use accessed_through::kind_number;
 pub use marking::{drops_export, drops_labels, marks};
 pub use suppression_text::{RuleRefusal, Rules, read_rules};

@@ -1,29 +1,29 @@
 -- Over two libraries that fit in memory, `check` has a verdict, and which one it is says whether the new library may replace the
 -- old one.
-use Rattle.std.proofs.Common.{◌≡◌, ◌≢◌, ◌↔◌, ◌≤◌, ◌+◌, ℕ, min, length, List, [], ◌∷◌, Option, Some, None, IsSome, inl, inr, refl, sym, ◌∙◌, ap, subst, arith}
+use Rattle.std.proofs.Common.{◌≡◌, ◌≢◌, ◌↔◌, ◌≤◌, ◌+◌, ℕ, min, length, List, [], ◌∷◌, Option, Some, None, IsSome, refl, sym, ◌∙◌, ap, subst, arith}
 use Rattle.std.specs.Prelude.{codes, map}
 use Rattle.abi_base.specs.Causes.{Rose, SameCounts}
 use Rattle.abi_base.specs.Limits.{sink_room}
 use Rattle.abi_base.specs.declared.fault.NoMemory.{NoMemory as Cause}
 use Rattle.abi_base.specs.declared.remark.Remark.{Remark}
-use Rattle.abi_top.specs.Answer.{Answers, Asks, AsksForTold, HasRoom, row_of}
+use Rattle.abi_top.specs.Answer.{Answers, AsksForTold, HasRoom, row_of}
 use Rattle.abi_top.specs.Calls.{Call}
 use Rattle.abi_top.specs.Inputs.{library_at, rules_at}
 use Rattle.abi_top.specs.Rows.Check.{CheckSays, check_says}
 use Rattle.cli_args.specs.Commands.{PlainRequest, check}
-use Rattle.cli_args.specs.ParsedArguments.{arguments_by, request, usage, help, version}
+use Rattle.cli_args.specs.ParsedArguments.{arguments_by, request}
 use Rattle.cli_args.specs.Words.{IsNoOption}
 use Rattle.commands.specs.Commands.{named, places_of}
 use Rattle.commands.specs.declared.input.Input.TheVariants.{Old, New}
 use Rattle.commands.specs.Outcomes.{IsNoMemory}
 use Rattle.commands.specs.Reading.{AreTold, reading_of}
-use Rattle.commands.specs.Replies.{Replies}
 use Rattle.commands.specs.Served.{AreServed, IsServed, IsVerdict}
 use Rattle.commands.specs.declared.outcome.Outcome.{Outcome}
-use Rattle.commands.specs.declared.outcome.Outcome.TheVariants.{Judged, Unreadable, ReadFault, Help, Usage, NoMemory, WriteFault}
+use Rattle.commands.specs.declared.outcome.Outcome.TheVariants.{Judged, NoMemory}
 use Rattle.commands.specs.declared.verdict.Verdict.{Verdict}
 use Rattle.commands.specs.declared.verdict.Verdict.TheVariants.{Yes, No, Refused, Done}
 use Rattle.commands.proofs.lemmas.Single.{served_verdict}
+use Rattle.abi_top.proofs.lemmas.ParsedArguments.{reply_of}
 use Rattle.library_check.specs.Checks.{Compatible}
 use Rattle.library_check.specs.Remarks.{remark_on}
 use Rattle.report.specs.Listening.{Voice}
@@ -51,42 +51,14 @@ pub is_other : (outcome : Outcome) → ((cause : Cause) → outcome ≢ NoMemory
 is_other (NoMemory cause) other is = other cause refl
 is_other outcome other is = absurd is
 
--- ---- the answers to a call are the replies of what it asks for
-
-asks_this : (call : Call) (asked : PlainRequest) (P : PlainRequest → Type 0) → arguments_by call.words ≡ request asked → Asks call P → P asked
-asks_this call asked P is (other, is', holds) = let same : other ≡ asked = cc in subst P same holds
-
-asks_usage : (call : Call) (asked : PlainRequest) → arguments_by call.words ≡ request asked → arguments_by call.words ≡ usage → ⊥
-asks_usage call asked is none = cc
-
-asks_help : (call : Call) (asked : PlainRequest) → arguments_by call.words ≡ request asked → arguments_by call.words ≡ help → ⊥
-asks_help call asked is none = cc
-
-no_version : (asked : PlainRequest) → request asked ≡ version → ⊥
-no_version asked same = cc
+-- ---- the answer of a call to check
 
 module _ (call : Call) (asked : PlainRequest) (is : arguments_by call.words ≡ request asked) where
-  this : (outcome : Outcome) (text : List ℕ) → Asks call (λ a. Replies call.reading (row_of call a).inputs (row_of call a).says outcome text)
-      → Replies call.reading (row_of call asked).inputs (row_of call asked).says outcome text
-  this outcome text answer = asks_this call asked (λ a. Replies call.reading (row_of call a).inputs (row_of call a).says outcome text) is answer
-
-  reply_of : (outcome : Outcome) (text : List ℕ) → Answers call outcome text → Replies call.reading (row_of call asked).inputs (row_of call asked).says outcome text
-  reply_of Usage text answer = absurd (asks_usage call asked is answer.0)
-  reply_of Help text answer = elim answer [
-    | inl h ↦ absurd (asks_help call asked is h.0)
-    | inr h ↦ absurd (no_version asked (sym is ∙ h.0))
-  ]
-  reply_of (Judged v untyped) text answer = this (Judged v untyped) text answer
-  reply_of (Unreadable which fault) text answer = this (Unreadable which fault) text answer
-  reply_of (ReadFault which) text answer = this (ReadFault which) text answer
-  reply_of (NoMemory cause) text answer = this (NoMemory cause) text answer
-  reply_of WriteFault text answer = this WriteFault text answer
-
   -- where all inputs are served, the answer is a verdict
   pub verdict_of : (all : List (List ℕ)) → AreServed call.reading (row_of call asked).inputs all → (outcome : Outcome) (text : List ℕ)
       → Answers call outcome text → IsVerdict (row_of call asked).says all outcome (λ (t : List ℕ). t ≡ text)
   verdict_of all served outcome text answer =
-      served_verdict call.reading (row_of call asked).inputs (row_of call asked).says all outcome text (reply_of outcome text answer) served
+      served_verdict call.reading (row_of call asked).inputs (row_of call asked).says all outcome text (reply_of call asked is outcome text answer) served
 
 -- ---- two libraries that fit
 

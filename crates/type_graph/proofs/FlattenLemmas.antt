@@ -17,7 +17,7 @@ use Rattle.type_reach.specs.TypeLaws.{IsShallow, TypeLaws}
 use Rattle.std.proofs.lemmas.Option.{none-some}
 use Rattle.abi_base.proofs.lemmas.Lists.{map-map}
 use Rattle.type_graph.specs.Placed.{replacing}
-use Rattle.type_graph.proofs.ListLemmas.{map-same}
+use Rattle.type_reach.proofs.lemmas.Mapped.{map-same}
 use Rattle.type_graph.proofs.ViewLemmas.{found-shallow}
 
 -- the members of the first parts were put, each moved

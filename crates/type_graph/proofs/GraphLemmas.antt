@@ -22,7 +22,8 @@ use Rattle.type_reach.specs.PeeledCores.{IsFound}
 use Rattle.type_reach.specs.TypeLaws.{TypeLaws}
 use Rattle.type_reach.specs.Views.{offset_of, member_part, enumerator_part, param_part, enumerators_of, parts_under, core_view, view_by}
 use Rattle.type_graph.specs.Nodes.{number_in, found_types, made_nodes}
-use Rattle.type_graph.proofs.ListLemmas.{from_map, get-cases}
+use Rattle.type_graph.proofs.ListLemmas.{get-cases}
+use Rattle.type_reach.proofs.lemmas.Mapped.{from_map}
 use Rattle.type_graph.proofs.ViewLemmas.{made_at, made_length, stands_at, type_found, own_there, part_there, found-shallow}
 
 abbrev pub rank_of : PlainDwarf → Type_ → ℕ

@@ -1,12 +1,11 @@
 -- The nodes keep the limits, and so are a graph.
 use Rattle.std.proofs.Common.{◌≡◌, ◌<◌, ◌≤◌, ◌^◌, ◌*◌, ◌∙◌, ℕ, zero, suc, true, false, List, [], ◌∷◌, length, map, get_or, Option, Some, None, refl, sym, ap, subst, arith, inl, inr}
-use Rattle.std.specs.Prelude.{flat_map, Contains, IfSome, nat_lt, nat_le, nat_eq, sum_by, ℤ, pos, negsuc}
+use Rattle.std.specs.Prelude.{Contains, IfSome, nat_lt, nat_le, nat_eq, sum_by, ℤ, pos, negsuc}
 use Rattle.std.specs.List.{list_any, list_all, IsDistinct}
 use Rattle.std.proofs.lemmas.Bool.{cases_Bool, cases_lt, lt-ltb, ltb-true, le-leb, or_parts, and_parts, false≢true}
 use Rattle.std.proofs.lemmas.List.{get_or_past}
 use Rattle.std.proofs.lemmas.List.Sums.{sum_by-cons}
 use Rattle.std.specs.Option.{unwrap_or}
-use Rattle.std.proofs.lemmas.List.Elements.{Contains-append_cases}
 use Rattle.std.proofs.lemmas.Option.{same_Some}
 use Rattle.abi_base.proofs.lemmas.Contained.{list_all_in, in_front, at_front, in_rest, in_none}
 use Rattle.abi_base.specs.Limits.{depth_limit, weight_limit}
@@ -36,7 +35,8 @@ use Rattle.type_reach.specs.TypeLaws.{TypeLaws}
 use Rattle.type_reach.specs.Sizes.{begins_beyond, has_member_beyond, is_too_large}
 use Rattle.type_reach.specs.Views.{bit_number, member_part, enumerator_part, param_part, enumerators_of, parts_under, kind_of, core_view, view_by}
 use Rattle.type_graph.specs.Nodes.{number_in, made_nodes}
-use Rattle.type_graph.proofs.ListLemmas.{from_map, get-cases}
+use Rattle.type_graph.proofs.ListLemmas.{get-cases}
+use Rattle.type_reach.proofs.lemmas.Mapped.{from_map, from_flat_map}
 use Rattle.type_graph.proofs.ViewLemmas.{made_at, made_length, stands_at, type_found, own_there, part_there, found-shallow}
 use Rattle.type_graph.proofs.FormLemmas.{form-void, form-core, elements-of}
 use Rattle.type_graph.proofs.GraphLemmas.{rank_of, node-cases, graph-inside, graph-falls, graph-apart}
@@ -83,13 +83,6 @@ given-narrow : (d : PlainDwarf) (m : ℕ) (name : Option (List ℕ)) → width_o
 given-narrow d m (Some name) own below x h = elim (in_front _ [] x h) [ inl same ↦ subst IsNarrow same own | inr none ↦ absurd (in_none x none) ]
 given-narrow d m None own below x h =
     elim (cases_Bool (facts_of d (type_of d.tree m)).aggregate) [ inl yes' ↦ let from = from_map (moved (declared_bit d m)) (flat_of d (type_of d.tree m)) x (rw yes' at h) in subst IsNarrow from.2 (below from.0 from.1) | inr no' ↦ absurd (in_none x (rw no' at h)) ]
-
-from_flat_map : {X Y : Type 0} (f : X → List Y) (xs : List X) (y : Y) → Contains (flat_map f xs) y → (x : X) × Contains xs x × Contains (f x) y
-from_flat_map f [] y h = absurd (in_none y h)
-from_flat_map f (x ∷ xs) y h = elim (Contains-append_cases (f x) (flat_map f xs) y h) [
-  | inl here ↦ (x, at_front x xs, here)
-  | inr later ↦ let r = from_flat_map f xs y later in (r.0, in_rest x xs r.0 r.1, r.2)
-]
 
 small-number : (o : Option ℕ) → is_small o ≡ true → unwrap_or o 0 < 2 ^ 63
 small-number None is = omega arith

@@ -19,7 +19,7 @@ use Rattle.type_reach.specs.Sizes.{begins_beyond}
 use Rattle.type_graph.specs.declared.flatten.Placed.{Placed}
 use Rattle.type_graph.specs.Sharing.{first_node, first_nodes}
 use Rattle.type_graph.specs.Placed.{plain_member, plain_members}
-use Rattle.type_graph.proofs.ListLemmas.{Contains-map}
+use Rattle.type_reach.proofs.lemmas.Mapped.{Contains-map}
 use Rattle.type_graph.proofs.LimitLemmas.{none_beyond}
 
 -- ---- members

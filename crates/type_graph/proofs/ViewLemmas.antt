@@ -23,7 +23,7 @@ use Rattle.type_reach.specs.PeeledCores.{IsFound}
 use Rattle.type_reach.specs.TypeLaws.{TypeLaws}
 use Rattle.type_reach.specs.Views.{offset_of, member_part, enumerator_part, param_part, enumerators_of, parts_under, core_view, view_by, view_of}
 use Rattle.type_graph.specs.Nodes.{number_in, renamed_part, renamed, entry_named, IsNodeOf, AreNodesOf, made_node, found_types, made_nodes}
-use Rattle.type_graph.proofs.ListLemmas.{Contains-map, map-same}
+use Rattle.type_reach.proofs.lemmas.Mapped.{Contains-map, map-same}
 
 -- ---- renaming
 

@@ -1,18 +1,11 @@
 -- The equation of what is made by value.
 use Rattle.std.proofs.Common.{◌≡◌, ◌≤◌, ◌+◌, ◌∙◌, ℕ, zero, suc, List, [], ◌∷◌, map, refl, ap, arith}
 use Rattle.std.specs.Prelude.{Contains}
-use Rattle.abi_base.proofs.lemmas.Contained.{at_front, in_rest}
 use Rattle.dwarf_tree.specs.Trees.{PlainTree}
 use Rattle.abi_base.specs.Limits.{depth_limit}
 use Rattle.type_reach.specs.References.{Type_}
 use Rattle.type_reach.specs.ByValue.{steps_from, StepsOn, IsTooDeep, within, by_value}
-
-pub map-same : {X Y : Type 0} (f g : X → Y) (xs : List X) → ((x : X) → Contains xs x → f x ≡ g x) → map f xs ≡ map g xs
-map-same f g [] same = refl
-map-same f g (x ∷ xs) same =
-    let here = same x (at_front x xs) in
-    let later = map-same f g xs (λ y h. same y (in_rest x xs y h)) in
-    rw (here, later) refl
+use Rattle.type_reach.proofs.lemmas.Mapped.{map-same}
 
 -- ---- chains
 

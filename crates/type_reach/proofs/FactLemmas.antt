@@ -18,7 +18,7 @@ use Rattle.type_reach.specs.ByValue.{steps_from, StepsOn, IsTooDeep, IsNoDeeper,
 use Rattle.type_reach.specs.Facts.{above, rank_in, nothing, void_facts, facts_from, facts_of, IsSpanNear, AreFacts}
 use Rattle.type_reach.proofs.ByValueLemmas.{StepsOn-none, StepsOn-more, StepsOn-cases, StepsOn-fewer, by_value-is}
 use Rattle.type_reach.proofs.RankLemmas.{above-le, above-reached}
-use Rattle.type_reach.proofs.WalkLemmas.{Contains-map, from_map}
+use Rattle.type_reach.proofs.lemmas.Mapped.{Contains-map, from_map}
 
 -- the equation of facts
 pub facts_of-is : (d : PlainDwarf) (r : Type_) → (IsTooDeep d.tree r → ⊥) → facts_of d r ≡ facts_from d r (map (facts_of d) (steps_from d.tree r))

@@ -4,8 +4,7 @@ use Rattle.std.proofs.lemmas.Bool.{cases_Bool}
 use Rattle.std.specs.Prelude.{Contains, zip, flat_map, ◌||◌}
 use Rattle.std.specs.List.{list_any}
 use Rattle.std.proofs.lemmas.List.{append-nil}
-use Rattle.std.proofs.lemmas.List.Elements.{Contains-append_cases}
-use Rattle.abi_base.proofs.lemmas.Contained.{in_front, at_front, in_rest, in_none}
+use Rattle.abi_base.proofs.lemmas.Contained.{in_front, in_none}
 use Rattle.abi_types.specs.Types.{PlainLabel}
 use Rattle.abi_base.specs.Limits.{depth_limit}
 use Rattle.dwarf_tree.specs.Trees.{PlainTree}
@@ -21,7 +20,7 @@ use Rattle.type_reach.specs.Facts.{members_with, member_beyond, own_span, span_f
 use Rattle.type_reach.specs.Flat.{Flat, own_label, passed_labels, labels_of, moved, declared_bit, given_by, given, flat_for, flat_of, member_gives}
 use Rattle.type_reach.specs.PeeledCores.{StandsForNone, IsFound, IsLower}
 use Rattle.type_reach.proofs.ByValueLemmas.{StepsOn-none, StepsOn-more}
-use Rattle.type_reach.proofs.WalkLemmas.{from_map, Contains-map}
+use Rattle.type_reach.proofs.lemmas.Mapped.{from_map, from_flat_map, Contains-map}
 use Rattle.type_reach.proofs.FactLemmas.{rank-falls, shallow-step}
 use Rattle.type_reach.proofs.StepLemmas.{passed-steps, aggregate-steps, members-beside}
 use Rattle.type_reach.proofs.CoreLemmas.{flat_of-is, labels_of-is, void_shallow, passed-flat, passed-step, step_found}
@@ -71,13 +70,6 @@ member-step t e m has = go (role_of t e) refl has where
   go role.Enumeration is h = absurd (in_none m h)
   go role.Base is h = absurd (in_none m h)
   go role.Unknown is h = absurd (in_none m h)
-
-pub from_flat_map : {X Y : Type 0} (f : X → List Y) (xs : List X) (y : Y) → Contains (flat_map f xs) y → (x : X) × Contains xs x × Contains (f x) y
-from_flat_map f [] y h = absurd (in_none y h)
-from_flat_map f (x ∷ xs) y h = elim (Contains-append_cases (f x) (flat_map f xs) y h) [
-  | inl here ↦ (x, at_front x xs, here)
-  | inr later ↦ let r = from_flat_map f xs y later in (r.0, in_rest x xs r.0 r.1, r.2)
-]
 
 -- ---- the types of flat members are lower
 

@@ -23,7 +23,7 @@ use Rattle.type_reach.specs.Flat.{Flat, moved, declared_bit, given_by, core_of, 
 use Rattle.type_reach.specs.PeeledCores.{IsPeeledCore}
 use Rattle.type_reach.specs.Sizes.{begins_beyond, has_member_beyond}
 use Rattle.type_reach.proofs.ByValueLemmas.{StepsOn-none, StepsOn-more}
-use Rattle.type_reach.proofs.WalkLemmas.{from_map, Contains-map}
+use Rattle.type_reach.proofs.lemmas.Mapped.{from_map, Contains-map}
 use Rattle.type_reach.proofs.FactLemmas.{facts_of-is, facts_of-void, shallow-step}
 use Rattle.type_reach.proofs.StepLemmas.{members-beside}
 use Rattle.type_reach.proofs.CoreLemmas.{passed-step, passed-shares, passed-flat, core-is}

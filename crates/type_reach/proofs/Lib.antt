@@ -22,3 +22,4 @@ mod SearchLemmas
 mod StepLemmas
 mod WalkLemmas
 mod ZipLemmas
+pub mod lemmas

@@ -15,6 +15,7 @@ use Rattle.type_reach.specs.References.{Type_, types_of, own_types, type_of, par
 use Rattle.type_reach.specs.Reached.{TypeReferences, IsWalk}
 use Rattle.type_reach.proofs.GrowLemmas.{Grew}
 use Rattle.type_reach.proofs.ReferLemmas.{Inside, type_inside}
+use Rattle.type_reach.proofs.lemmas.Mapped.{from_map, Contains-map}
 
 -- all to which entries lead is inside
 abbrev pub LeadInside : PlainTree → Type 0
@@ -40,21 +41,6 @@ some_root [] f h = absurd (in_none (Some f) h)
 some_root (r ∷ roots) f h = elim (in_front (Some r) (map (λ e. Some e) roots) (Some f) h) [
   | inl same ↦ subst (Contains (r ∷ roots)) (same_Some r f same) (at_front r roots)
   | inr later ↦ in_rest r roots f (some_root roots f later)
-]
-
-pub Contains-map : {X Y : Type 0} (g : X → Y) (xs : List X) (x : X) → Contains xs x → Contains (map g xs) (g x)
-Contains-map g [] x h = absurd (in_none x h)
-Contains-map g (y ∷ ys) x h = elim (in_front y ys x h) [
-  | inl same ↦ subst (λ z. Contains (g y ∷ map g ys) (g z)) same (at_front (g y) (map g ys))
-  | inr later ↦ in_rest (g y) (map g ys) (g x) (Contains-map g ys x later)
-]
-
--- what stands in a mapped list is what the function gives of an item
-pub from_map : {X Y : Type 0} (g : X → Y) (xs : List X) (y : Y) → Contains (map g xs) y → (x : X) × Contains xs x × (g x ≡ y)
-from_map g [] y h = absurd (in_none y h)
-from_map g (x ∷ xs) y h = elim (in_front (g x) (map g xs) y h) [
-  | inl same ↦ (x, at_front x xs, same)
-  | inr later ↦ let r = from_map g xs y later in (r.0, in_rest x xs r.0 r.1, r.2)
 ]
 
 own_led : (t : PlainTree) (b : Bool) (e f : ℕ) → Contains (cond b (type_of t e ∷ []) []) (Some f) → f < length t.entries

@@ -19,7 +19,7 @@ use Rattle.pair_compare.specs.certificates.Certificates.{IsCertificateOf, AreLib
 use Rattle.pair_compare.specs.certificates.LineLists.{pair_line}
 use Rattle.pair_compare.specs.certificates.Searches.{AreBound, AreClassesOf, IsUnbroken}
 use Rattle.pair_compare.proofs.certificates_lemmas.Orders.{first_cmp_total, pair_cmp_total}
-use Rattle.pair_compare.proofs.certificates_lemmas.OneList.{one_list}
+use Rattle.cert_check.proofs.lemmas.OneList.{one_list}
 use Rattle.pair_compare.proofs.certificates_lemmas.BindLemmas.{GivenLaw}
 use Rattle.pair_compare.proofs.certificates_lemmas.BindLines.{binds_ascend, binds_below}
 

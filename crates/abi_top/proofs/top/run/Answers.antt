@@ -6,7 +6,7 @@ use Rattle.abi_top.specs.Calls.{Call}
 use Rattle.cli_args.specs.Words.{texts}
 use Rattle.commands.specs.Reading.{reading_of}
 use Rattle.commands.specs.declared.outcome.Outcome.TheVariants.{Help}
-use Rattle.abi_top.proofs.ParsedArguments.{complete_says, fault_says}
+use Rattle.abi_top.proofs.lemmas.ParsedArguments.{complete_says, fault_says}
 use Rattle.abi_top.proofs.Rows.{done_says, itself_says, no_agreed, no_says, refused_says, yes_agreed, yes_leaves, yes_says}
 use Rattle.abi_top.proofs.Single.{help_alone, help_says, usage_alone, version_alone}
 use Rattle.abi_top.proofs.top.run.Goals as goal

@@ -1,0 +1,2 @@
+-- What crates above may use of proofs.
+pub mod Names

@@ -1,0 +1,2 @@
+-- What crates above may use of proofs: laws of the definitions of `specs/`, and of lists.
+pub mod Mapped
