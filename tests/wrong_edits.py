@@ -122,34 +122,32 @@ def results_in(said: str, edits: Iterable[Edit]) -> dict[str, str]:
 
 @dataclass(frozen=True)
 class Function:
-    """A function of a source file with a contract of its own: its name, its first and last line, and the first line of its body, from 1."""
+    """A function with a contract of its own: its source file, its path below the crate as a check prints it, and the first and the
+    last line of its body, from 1."""
 
+    source: str
     path: str
-    name: str
     first: int
-    body: int
     last: int
 
-    def fails_at(self, place: str) -> bool:
-        """Whether a place that a check names, `FILE:LINE`, lies in the function or in the proof that is written for it."""
-        path, _, line = place.rpartition(":")
-        if path == self.path:
-            return self.first <= int(line) <= self.last
-        module = re.sub(r"(/mod)?\.rt$", "/", self.path.removeprefix("src/"))
-        return path.startswith(f"proofs/{'' if module == 'lib/' else module}") and f"/{self.name}/" in path
 
-
-def functions_of(path: str, text: str) -> list[Function]:
-    """The functions with a contract of a source file that `rt fmt` has formatted."""
-    lines, found = text.split("\n"), []
+def functions_of(source: str, text: str) -> list[Function]:
+    """The functions with a contract of a source file that `rt fmt` has formatted. Those of a trait's impl have their contracts elsewhere."""
+    lines, found, owner = text.split("\n"), [], ""
+    module = re.sub(r"(^|/)(lib|main|mod)$", "", source.removeprefix("src/").removesuffix(".rt")).replace("/", "::")
     for number, line in enumerate(lines, 1):
+        if block := re.match(r"(?:ghost )?(?:impl|pub trait|trait)\b(?:<[^{]*?>)? (\w+)", line):
+            owner = block[1]
+        elif line == "}":
+            owner = ""
         named = re.match(r"( *)(?:pub(?:\(crate\))? )?(?:const )?fn (\w+)", line)
-        if not named or line.rstrip().endswith("}"):
+        if not named:
             continue
-        last = next((at for at, it in enumerate(lines[number:], number + 1) if it == named[1] + "}"), None)
-        body = next((at for at, it in enumerate(lines[number:last], number + 1) if it == named[1] + "{"), None)
-        if last and body and any(it.strip().startswith("ensures") for it in lines[number:body]):
-            found.append(Function(path, named[2], number, body, last))
+        last = next((at for at, it in enumerate(lines[number:], number + 1) if it == named[1] + "}"), 0)
+        body = next((at for at, it in enumerate(lines[number:last], number + 1) if it == named[1] + "{"), 0)
+        if body and any(it.strip().startswith("ensures") for it in lines[number:body]):
+            path = "::".join(it for it in (module, owner, named[2]) if it)
+            found.append(Function(source, path, body + 1, last - 1))
     return found
 
 
@@ -159,7 +157,7 @@ def bodies_of(crate: Path, edit: Edit) -> frozenset[Function]:
     for change in changes_of(edit):
         text = (crate / change.path).read_text(encoding="utf-8")
         line = text[: text.index(change.old)].count("\n") + 1
-        within = [it for it in functions_of(change.path, text) if it.body < line < it.last]
+        within = [it for it in functions_of(change.path, text) if it.first <= line <= it.last]
         if not within or "fn " in change.old + change.new:
             return frozenset()
         found.add(within[-1])
@@ -180,25 +178,15 @@ def batches_of(crate: Path, edits: list[Edit]) -> list[dict[Edit, frozenset[Func
     return [it for it in batches if len(it) > 1]
 
 
-# A place at which a check says that something is not proved: in a source, or in a proof that is written for one.
-UNPROVED = re.compile(r"^(?:so far: )?(?:note: )?(?:\./)?(?:(src/\S+?:\d+):\d+: it is not proved|(proofs/\S+?:\d+):\d+: error)", re.MULTILINE)
-# What a check says of a source that it cannot read.
-UNREAD = re.compile(r"^(?:so far: )?(?:\./)?src/\S+: error", re.MULTILINE)
-
-
-def places_in(said: str) -> set[str]:
-    """The places, `FILE:LINE`, at which a check says that something is not proved."""
-    return {source or proof for source, proof in UNPROVED.findall(said)}
-
-
-def refused_in(batch: dict[Edit, frozenset[Function]], said: str) -> set[str]:
-    """The names of the edits of a batch that the check refuses: in each of their functions something is not proved. None, if
-    something else is not proved, or if an edit cannot be read."""
-    places = places_in(said)
-    functions = frozenset().union(*batch.values())
-    if "logic=not-proved" not in said or UNREAD.search(said) or not all(any(it.fails_at(place) for it in functions) for place in places):
+def refused_in(crate: str, batch: dict[Edit, frozenset[Function]], said: str) -> set[str]:
+    """The names of the edits of a batch that a check of the crate refuses: it proves none of their functions. None, if it comes to no
+    end, or if a function that no edit changes is not proved."""
+    verdicts = dict(re.findall(rf"^fn {crate}::(\S+?)(?:::{{\S+)?: (\w+)", said, re.MULTILINE))
+    unproved = {path for path, verdict in verdicts.items() if verdict != "proved"}
+    changed = {it.path for bodies in batch.values() for it in bodies}
+    if not re.search(r"^(logic=not-proved|only=)", said, re.MULTILINE) or not unproved <= changed:
         return set()
-    return {edit.name for edit, bodies in batch.items() if all(any(it.fails_at(place) for place in places) for it in bodies)}
+    return {edit.name for edit, bodies in batch.items() if unproved >= {it.path for it in bodies}}
 
 
 def tried_together(folder: Path, edits: list[Edit]) -> set[str]:
@@ -212,11 +200,12 @@ def tried_together(folder: Path, edits: list[Edit]) -> set[str]:
         kept = {path: (crate / path).read_text(encoding="utf-8") for path in made}
         for path, text in made.items():
             (crate / path).write_text(text, encoding="utf-8")
-        words = ["rt", "check", crate.name, "--jobs", "1"]
+        only = [word for bodies in batch.values() for it in bodies for word in ("--only", it.path)]
+        words = ["rt", "check", crate.name, "--jobs", "1", *only]
         ended = subprocess.run(words, cwd=folder, stdin=subprocess.DEVNULL, stdout=subprocess.PIPE, stderr=subprocess.STDOUT, text=True, check=False)
         for path, text in kept.items():
             (crate / path).write_text(text, encoding="utf-8")
-        names = refused_in(batch, ended.stdout)
+        names = refused_in(crate.name, batch, ended.stdout)
         print(f"{crate.name}: {len(names)} of {len(batch)} edits were refused in one check", flush=True)
         refused |= names
     return refused

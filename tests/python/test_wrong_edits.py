@@ -5,7 +5,7 @@ from __future__ import annotations
 from pathlib import Path
 
 import pytest
-from wrong_edits import Edit, Function, batches_of, bodies_of, functions_of, places_in, refused_in
+from wrong_edits import Edit, Function, batches_of, bodies_of, functions_of, refused_in
 
 _SOURCE = """\
 // The most.
@@ -40,8 +40,8 @@ _EDITS = {
     "without_a_contract": ("src/a/mod.rt", "        self.count < MOST", "        true"),
     "another_contract": ("src/a/mod.rt", "    ensures { result ≡ count + 1 }", "    ensures { result ≡ count }"),
 }
-_NEXT = Function("src/a/mod.rt", "next", 5, 8, 10)
-_IS_EMPTY = Function("src/a/mod.rt", "is_empty", 14, 16, 18)
+_NEXT = Function("src/a/mod.rt", "a::next", 9, 9)
+_IS_EMPTY = Function("src/a/mod.rt", "a::Table::is_empty", 17, 17)
 
 
 @pytest.fixture(name="crate")
@@ -84,25 +84,16 @@ def test_only_edits_of_bodies_with_a_contract_share_a_check(crate: Path, edits: 
 @pytest.mark.parametrize(
     ("said", "refused"),
     [
-        (
-            "note: src/a/mod.rt:5:1: it is not proved that it holds\nnote: src/a/mod.rt:17:9: it is not proved\n",
-            {"crate/one_too_many", "crate/never_empty"},
-        ),
-        ("so far: note: src/a/mod.rt:9:5: it is not proved that it holds\n", {"crate/one_too_many"}),
-        ("./proofs/a/Table/is_empty/Answers.antt:3:4: error: no proof\n", {"crate/never_empty"}),
+        ("fn crate::a::next: no proof: expected answers\nfn crate::a::Table::is_empty: not proved\n", {"crate/one_too_many", "crate/never_empty"}),
+        ("fn crate::a::next: not proved\nfn crate::a::Table::is_empty: proved\nfn crate::b::next: proved\n", {"crate/one_too_many"}),
         # Something else is not proved, so the check says nothing of the edits.
-        ("note: src/a/mod.rt:5:1: it is not proved\nnote: src/a/mod.rt:20:5: it is not proved\n", set()),
-        ("note: src/a/mod.rt:5:1: it is not proved\nnote: src/b.rt:9:1: it is not proved\n", set()),
-        # An edit cannot be read.
-        ("src/a/mod.rt:9:5: error[types]: no such name\nnote: src/a/mod.rt:17:9: it is not proved\n", set()),
+        ("fn crate::a::next: not proved\nfn crate::a::Table::is_empty: not proved\nfn crate::b::next: not proved\n", set()),
+        # The check comes to no function.
+        ("src/a/mod.rt:9:5: error[types]: no such name\n", set()),
     ],
 )
 def test_what_a_check_says_of_each_edit(edits: dict[str, Edit], said: str, refused: set[str]) -> None:
     batch = {edits["one_too_many"]: frozenset({_NEXT}), edits["never_empty"]: frozenset({_IS_EMPTY})}
-    assert refused_in(batch, said + "logic=not-proved functions=2") == refused
-    assert refused_in(batch, said) == set()
-
-
-def test_the_places_of_a_check_that_began_with_kept_work() -> None:
-    said = "so far: note: src/leb.rt:131:1: it is not proved that\n./proofs/inputs/read/Answers.antt:23:20: note: large solution: the\n"
-    assert places_in(said) == {"src/leb.rt:131"}
+    assert refused_in("crate", batch, said + "logic=not-proved\n") == refused
+    assert refused_in("crate", batch, said + "only=2 proved=1\n") == refused
+    assert refused_in("crate", batch, said) == set()
