@@ -1,5 +1,6 @@
 // A certificate while its text is read.
-ghost use Rattle.std.specs.Prelude.{◌≡◌, OnOk};
+ghost use Rattle.std.specs.Prelude.{◌≡◌, OnOk, IfErr};
+ghost use Rattle.abi_base.specs.declared.fault.NoMemory.TheVariants.{Allocation};
 ghost use Rattle.cert_text.specs.Steps.{empty_cert, with_line};
 ghost use Rattle.cert_text.specs.Certs.{IsCert};
 
@@ -61,7 +62,8 @@ impl Draft {
 
     /// Appends a line to the list of its kind.
     pub fn put(&mut self, line: Line) -> Result<(), NoMemory>
-        ensures { OnOk result (self.new ≡ with_line self.old line) }
+        ensures added { OnOk result (self.new ≡ with_line self.old line) }
+        ensures named { IfErr result (λ e. e ≡ Allocation) }
     {
         match line {
             Line::Bind { old, new } => self.binds.push((old, new)),

@@ -1,6 +1,7 @@
 // Certificates of version 1, whose pair lines have no way.
-ghost use Rattle.std.specs.Prelude.{◌≡◌, map, flat_map, IfOk};
-ghost use Rattle.abi_base.specs.Outcome.{Judges};
+ghost use Rattle.std.specs.Prelude.{◌≡◌, map, flat_map, IfOk, IfErr};
+ghost use Rattle.abi_base.specs.declared.fault.NoMemory.TheVariants.{Allocation};
+ghost use Rattle.abi_base.specs.Outcome.{Judges, OnPast};
 ghost use Rattle.cert_text.specs.declared.line.Version.TheVariants.{One};
 ghost use Rattle.cert_text.specs.Faults.{fault_of};
 ghost use Rattle.cert_text.specs.Grammar.{IsSpelled1};
@@ -75,7 +76,8 @@ impl Cert1 {
 
 // The pairs without their ways.
 fn without_ways(alloc: Global, lines: &[(u64, u64, Way)]) -> Result<List<(u64, u64)>, NoMemory>
-    ensures { IfOk result (λ pairs. pairs ≡ map without_way lines.now) }
+    ensures plain { IfOk result (λ pairs. pairs ≡ map without_way lines.now) }
+    ensures named { IfErr result (λ e. e ≡ Allocation) }
 {
     let mut pairs = List::new(alloc);
     for line in lines {
@@ -89,6 +91,7 @@ fn without_ways(alloc: Global, lines: &[(u64, u64, Way)]) -> Result<List<(u64, u
 pub fn read_cert_1(alloc: Global, bytes: &[u8]) -> Result<Cert1, Refusal>
     ensures spelled { IfOk result (λ cert. IsSpelled1 bytes.now cert) }
     ensures fault { Judges result (fault_of One bytes.now) }
+    ensures past { IfErr result (λ e. OnPast e (λ l. ⊥)) }
 {
     let Cert {
         old_digest,
@@ -113,7 +116,8 @@ pub fn read_cert_1(alloc: Global, bytes: &[u8]) -> Result<Cert1, Refusal>
 
 // The pairs, each at both ways.
 fn with_both_ways(alloc: Global, lines: &[(u64, u64)]) -> Result<List<(u64, u64, Way)>, NoMemory>
-    ensures { IfOk result (λ pairs. pairs ≡ flat_map both_ways lines.now) }
+    ensures both { IfOk result (λ pairs. pairs ≡ flat_map both_ways lines.now) }
+    ensures named { IfErr result (λ e. e ≡ Allocation) }
 {
     let mut pairs = List::new(alloc);
     for line in lines {
@@ -126,7 +130,8 @@ fn with_both_ways(alloc: Global, lines: &[(u64, u64)]) -> Result<List<(u64, u64,
 
 /// The certificate of version 2 with the meaning of one of version 1: it has each pair line at both ways.
 pub fn migrate(alloc: Global, cert: &Cert1) -> Result<Cert, NoMemory>
-    ensures { IfOk result (λ new. new ≡ migrated cert.now) }
+    ensures migrated { IfOk result (λ new. new ≡ migrated cert.now) }
+    ensures named { IfErr result (λ e. e ≡ Allocation) }
 {
     cert.known();
     let old_digest = cert.old_digest;

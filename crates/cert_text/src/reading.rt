@@ -1,7 +1,7 @@
 // Reading the text of a certificate.
-ghost use Rattle.std.specs.Prelude.{◌≡◌, ◌≤◌, length, MatchResult, IfOk};
+ghost use Rattle.std.specs.Prelude.{◌≡◌, ◌≤◌, length, MatchResult, IfOk, IfErr};
 ghost use Rattle.cert_text.specs.Certs.{line_count};
-ghost use Rattle.abi_base.specs.Outcome.{Judges};
+ghost use Rattle.abi_base.specs.Outcome.{Judges, OnPast};
 ghost use Rattle.cert_text.specs.Faults.{fault_of};
 ghost use Rattle.cert_text.specs.Faults as spec;
 ghost use Rattle.cert_text.specs.Grammar.{IsSpelled, IsSpelledIn};
@@ -72,6 +72,7 @@ pub fn read_text(alloc: Global, version: Version, bytes: &[u8]) -> Result<Cert, 
     ensures spelled { IfOk result (λ cert. IsSpelledIn version bytes.now cert) }
     ensures room { IfOk result (λ cert. line_count cert ≤ length bytes.now) }
     ensures fault { Judges result (fault_of version bytes.now) }
+    ensures past { IfErr result (λ e. OnPast e (λ l. ⊥)) }
 {
     let head = read_head(version, bytes)?;
     let old_digest = head.old_digest;
@@ -98,6 +99,7 @@ pub fn read_text(alloc: Global, version: Version, bytes: &[u8]) -> Result<Cert, 
 pub fn read_cert(alloc: Global, bytes: &[u8]) -> Result<Cert, Refusal>
     ensures spelled { IfOk result (λ cert. IsSpelled bytes.now cert) }
     ensures fault { Judges result (fault_of Version.Two bytes.now) }
+    ensures past { IfErr result (λ e. OnPast e (λ l. ⊥)) }
 {
     read_text(alloc, Version::Two, bytes)
 }

@@ -1,5 +1,6 @@
 // The text of a certificate.
-ghost use Rattle.std.specs.Prelude.{◌≡◌, ◌∷◌, [], ◌++◌, map, decimal, IfOk, OnOk};
+ghost use Rattle.std.specs.Prelude.{◌≡◌, ◌∷◌, [], ◌++◌, map, decimal, IfOk, IfErr, OnOk};
+ghost use Rattle.abi_base.specs.declared.fault.NoMemory.TheVariants.{Allocation};
 ghost use Rattle.cert_text.specs.declared.line.Version.TheVariants.{Two};
 ghost use Rattle.cert_text.specs.Grammar.{IsSpelled, lined, spelling, digest_line, bind_of, alike_old_of, alike_new_of, pair_of, way_word};
 
@@ -143,7 +144,8 @@ fn push_pairs(text: &mut Vec<u8>, pairs: &[(u64, u64, Way)]) -> Result<(), Alloc
 
 /// The text of a certificate, or `NoMemory`.
 pub fn write_cert(alloc: Global, cert: &Cert) -> Result<Vec<u8>, NoMemory>
-    ensures { IfOk result (λ bytes. IsSpelled bytes.items cert.now) }
+    ensures spelled { IfOk result (λ bytes. IsSpelled bytes.items cert.now) }
+    ensures named { IfErr result (λ e. e ≡ Allocation) }
 {
     cert.known();
     let mut text = Vec::with_capacity(alloc, room_of(cert))?;

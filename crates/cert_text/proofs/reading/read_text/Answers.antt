@@ -11,7 +11,7 @@ lines-init c = rw c.new-draft.ensures (started c.args.version c.args.bytes.now _
 
 pub lines-preserved : goal.lines-preserved
 lines-preserved c =
-    rw c.in_ok-put.ensures (went_on c.args.version c.args.bytes.now c.lines.at _ c.lines.number c.lines.before c.lines.draft _ c.in_ok-line.line c.lines.invariant c.in-Some.ensures.1 (rw c.line_at.ensures at c.in_ok-line.ensures))
+    rw c.in_ok-put.ensures.added (went_on c.args.version c.args.bytes.now c.lines.at _ c.lines.number c.lines.before c.lines.draft _ c.in_ok-line.line c.lines.invariant c.in-Some.ensures.1 (rw c.line_at.ensures at c.in_ok-line.ensures))
 
 pub finish-requires : goal.finish-requires
 finish-requires c =

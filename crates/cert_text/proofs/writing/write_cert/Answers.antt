@@ -3,8 +3,8 @@ use Rattle.cert_text.specs.Grammar.{IsSpelled}
 use Rattle.cert_text.proofs.WritingLemmas.{written}
 use Rattle.cert_text.proofs.writing.write_cert.Goals as goal
 
-pub returns : goal.returns
-returns c =
+pub returns-clause-spelled : goal.returns-clause-spelled
+returns-clause-spelled c =
     subst (IsSpelled c.push_line.new.text.items) c.cert.view_is
     (written _ _ _ _ _ _ _ _ _ _ c.cert.invariant
     (rw c.in_ok-text.ensures.items at c.in_ok-extend_from_slice.ensures.items) c.in_ok-push_digest.ensures c.in_ok-push_digest-2.ensures c.in_ok-push_digest-3.ensures
