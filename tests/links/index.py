@@ -39,7 +39,6 @@ _PROGRAMS = {
     "`abi exports`, `abi entries`": ((_SPECIFICATION, "The verdict"), (_README, "Commands")),
     "`abi layout`": ((_MANUAL[1], ""), (_SPECIFICATION, "Layouts")),
     "`abi trial`": ((_SPECIFICATION, "Answers"),),
-    "styles of reports: `text`, `table`, `counts`, `first`, `own`": ((_SPECIFICATION, "Reports"),),
     "a line of a report, a path": ((_GUIDE, "Reading a break"), (_SPECIFICATION, "The verdict")),
     "`abi-gate`": ((_GUIDE, "A gate in a build"), (_PACKAGES, 'A gate that can say "cannot tell"')),
     "`abi-packages`": ((_PACKAGES, "Two sets of packages"), (_README, "Two packages in, an answer out")),
@@ -73,9 +72,8 @@ Where is what? Search this page for a word, a number or a name, in small and cap
 line. Each tool also has a manual page, such as `man abi-gate`. `tests/links.sh --write` makes this page from the other pages and from the sources.
 
 """
-_LIMIT_SENTENCE = "Past a limit the sentence is `abi: past the limit on WORDS (LIMITS in abi(1))`, with status 4. " \
-    "The bytes of `.dynsym` and of the sections of versions include those of their string tables: the names of the symbols of a file " \
-    "may have what the row of dynamic symbols allows, less 24 bytes for each symbol.\n\n"
+_LIMIT_SENTENCE = "Past a limit the sentence is `abi: past the limit on WORDS (LIMITS in abi(1))`, with status 4; with a fault, status 2. " \
+    "Some limits share their words: what stands in brackets tells them apart.\n\n"
 _STATUSES = """\
 | Of | Status or answer | Where |
 |---|---|---|
@@ -168,12 +166,27 @@ def numbers_of_no_fault() -> str:
 
 
 def rows_of_limits() -> Iterator[tuple[str, ...]]:
-    """A row for each limit, with how much it allows."""
-    for limit in limits():
-        found = [(section, row[2]) for section in sections(_LIMITS) for rows in tables(section.text) for row in rows
-                 if row[:2] == [limit.words, limit.word]]
-        section, allowed = found[0]
-        yield limit.word, f"`{limit.name}`", limit.words, allowed, link(section)
+    """A row for each limit, with how much it allows. No two of them begin alike."""
+    begun = set[str]()
+    for limit, apart in limits():
+        ((section, allowed),) = [(section, row[2]) for section in sections(_LIMITS) for rows in tables(section.text) for row in rows
+                                 if row[:2] == [limit.words, limit.word]]
+        begin = f"{limit.word} ({apart})" if apart else limit.word
+        if begin in begun:
+            raise ValueError(f"two limits begin with {begin}")
+        begun.add(begin)
+        yield begin, limit.words, allowed, link(section), f"`{limit.name}`"
+    numbered = {fault.word: fault for fault in faults()}
+    for section in sections(_LIMITS):
+        for row in chain.from_iterable(rows[1:] for rows in tables(section.text) if rows[0] == ["What", "Limit", "Fault"]):
+            yield f"fault {row[2]} {numbered[row[2]].name}", row[0], row[1], link(section), "status 2"
+
+
+def others_of_limits() -> str:
+    """What the page on limits says below the table of those with a fault of their own, and where the limits of the tools are."""
+    (text,) = [section.text for section in sections(_LIMITS) if section.title == "Limits with a fault of their own"]
+    (found,) = re.findall(r"A pattern of a rule file has at most .*", text)
+    return f"\n{found} Limits of the tools: {at(_PACKAGES, 'Limits')}, {at(_MANUAL[3], 'Limits')}.\n"
 
 
 def rows_of_notes() -> Iterator[tuple[str, ...]]:
@@ -189,9 +202,15 @@ def rows_of_notes() -> Iterator[tuple[str, ...]]:
 
 
 def rows_of_programs() -> Iterator[tuple[str, ...]]:
-    """A row for each program, tool and format."""
+    """A row for each program, tool, format and style of reports."""
     for words, places in _PROGRAMS.items():
         yield words, ", ".join(at(page, heading) for page, heading in places)
+    (reports,) = [section for section in sections(_SPECIFICATION) if section.title == "Reports"]
+    styles = re.findall(r"^- `(\w+)`: (.*)\.$", reports.text, re.MULTILINE)
+    first, *others = (f"`{name}`" for name, _ in styles)
+    yield f"styles of reports, for `--report STYLE`: {first} (the default), {', '.join(others)}", f"{link(reports)}, {at(ROOT / 'CONTRIBUTING.md', 'A style of reports')}"
+    for name, words in styles:
+        yield f"style `{name}` of reports: {words}", link(reports)
 
 
 def rows_of_properties() -> Iterator[tuple[str, ...]]:
@@ -311,7 +330,7 @@ def parts() -> Iterator[tuple[str, str]]:
     yield "Faults", table("As it is printed", "When", "Exactly", rows=rows_of_faults()) + unused
     yield "Statuses", statuses()
     yield "Limits", _LIMIT_SENTENCE + table(
-        "Words of the sentence", "Name in the code", "What is counted", "How much", "Where", rows=rows_of_limits())
+        "Words of the sentence", "What is counted", "How much", "Where", "In the code", rows=rows_of_limits()) + others_of_limits()
     yield "Notes", table("Kind", "What it is about", "Weight", "Where", rows=rows_of_notes())
     yield "Rule files", table("Property", "Read", "Where", rows=rows_of_properties())
     yield "Sentences", table("Sentence", "Where", rows=rows_of_sentences())

@@ -72,9 +72,9 @@ def said_of_faults() -> dict[str, list[str]]:
     return {words: kinds for words, kinds in found if words.count(" ") > 2}
 
 
-def limits() -> list[Named]:
-    """The limits, in the order of docs/manual/LIMITS.md."""
-    return [Named(f"Limit::{row.row}", row.words, row.counted) for row in ROWS]
+def limits() -> list[tuple[Named, str]]:
+    """The limits, in the order of docs/manual/LIMITS.md, each with what tells it apart from others with the same words."""
+    return [(Named(f"Limit::{row.row}", row.words, row.counted), row.apart) for row in ROWS]
 
 
 def kinds_of_notes() -> list[tuple[Named, bool]]:
