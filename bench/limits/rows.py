@@ -11,6 +11,19 @@ _SYMBOL = constant("elf/src/constants.rt", "SYM_SIZE")
 _ROW = constant("pair_compare/src/reports/rows.rt", "ROW")
 
 
+# What tells limits apart that `abi` names by the same words: by the names of their figures.
+_APART = {
+    "needs": "the table of needs", "imports": "imports",
+    "report": "rows", "places": "places in the source", "typedefs": "names of typedefs",
+    "listing": "lines of `exports`", "layout": "members in `layout`",
+    "weight": "all patterns of a rule file", "classes": "classes in values", "blocks": "sections that one name finds",
+    "read": "letters that patterns read",
+    "joins": "lines that are joined", "lines": "lines that are written",
+    "needed_for_notes": "needed files", "needed": "needed files, `app`", "notes": "all other notes",
+    "affected": "bytes of their notes", "steps_to": "steps to find them",
+}
+
+
 @dataclass(frozen=True)
 class Row:
     """A limit: the name of its figure, what it counts, its name in the table, and how much there may be."""
@@ -25,6 +38,11 @@ class Row:
         """The words by which `abi` names the limit."""
         return words(self.row)
 
+    @property
+    def apart(self) -> str:
+        """What tells the limit apart from others with the same words, if there are any."""
+        return _APART.get(self.name, "")
+
 
 def _times(name: str, counted: str, row: str, table: str) -> Row:
     """A limit that is a multiple of the bytes of a table."""
@@ -32,17 +50,17 @@ def _times(name: str, counted: str, row: str, table: str) -> Row:
 
 
 def _each(name: str, counted: str, row: str, thing: str) -> Row:
-    """A limit of so many for each thing, and so many more."""
+    """A limit that grows with the number of things, and has a constant part."""
     return Row(name, counted, row, f"{rate(row).each:,} for each {thing}, and {rate(row).base:,} more")
 
 
 def _by_bytes(name: str, counted: str, row: str) -> Row:
-    """A limit of one for so many bytes of the file, and so many more."""
+    """A limit of one for each group of bytes of the file, with a constant part."""
     return Row(name, counted, row, f"1 for each {rate(row).units} bytes of the file, and {rate(row).base:,} more")
 
 
 def _symbols(name: str, counted: str, row: str) -> Row:
-    """A limit of so many bytes for each symbol."""
+    """A limit in bytes that grows with the number of symbols."""
     return Row(name, counted, row, f"{rate(row).each * _SYMBOL:,} bytes for each symbol")
 
 
@@ -52,15 +70,19 @@ def _alone(name: str, counted: str, row: str) -> Row:
 
 
 ROWS = [
-    _times("symbols", f"Symbols: {_SYMBOL} bytes each, and its name", "Symbols", "the bytes of `.dynsym`"),
-    _times("definitions", "Definitions of versions: 20 bytes each, and its name", "VersionDefinitions", "the bytes of their section"),
+    _times("symbols", f"Symbols: {_SYMBOL} bytes each, and its name", "Symbols",
+           "the bytes of `.dynsym` and of its string table"),
+    _times("definitions", "Definitions of versions: 20 bytes each, and its name", "VersionDefinitions",
+           "the bytes of their section and of its string table"),
     _symbols("exports", "Exports: the bytes of the name and of its version", "ExportNames"),
     _times("declared", "Letters of the names under which exports are declared", "DeclaredNames", "the bytes of the file"),
     _times("needs", "`app`, needs of versions: 16 bytes for each file and each version, and the names", "VersionNeeds",
-           "the bytes of their section"),
+           "the bytes of their section and of its string table"),
     _symbols("imports", "`app`, imports: the names of the version and of the file that each one needs", "ImportNeeds"),
+    _times("needed_for_notes", "Needed files, for notes: 16 bytes for each entry of the dynamic table, and the name", "NeededFiles",
+           "the bytes of `.dynamic` and of its string table"),
     _times("needed", "`app`, remarks: the letters of each needed file's name that is compared with the soname", "NeededFiles",
-           "the bytes of `.dynamic`"),
+           "the bytes of `.dynamic` and of its string table"),
     _times("lists", "Range lists of functions: the bytes of each up to its first range", "RangeLists",
            "the bytes of `.debug_rnglists` and `.debug_ranges`"),
     _times("tables", "Tables of abbreviations that are read: 5 bytes for each abbreviation, 2 for each attribute of it", "Abbreviations",

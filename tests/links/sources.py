@@ -2,10 +2,13 @@
 
 from __future__ import annotations
 
+import ast
 import re
 import sys
 from dataclasses import dataclass
 from functools import cache
+from itertools import chain, takewhile
+from pathlib import Path
 from typing import Iterator
 
 from .markdown import ROOT
@@ -15,6 +18,10 @@ sys.path.insert(0, str(ROOT / "bench"))
 from limits.rows import ROWS  # noqa: E402
 
 _CRATES = ROOT / "crates"
+TOOLS = ROOT / "tools"
+# The faults of default arms, by the first words of their sentences.
+_DEFAULTS = {"the language of the unit": "Language", "the entry has a chain": "OriginTooDeep", "the certificate does not end": "End",
+             "it is longer than 256": "TooLong"}
 _MAN = sorted((ROOT / "share" / "man" / "man1").glob("*.1"))
 
 
@@ -63,18 +70,30 @@ def faults() -> list[Named]:
 
 
 def said_of_faults() -> dict[str, list[str]]:
-    """The sentences on faults, each with the numbers of its faults. Those of a default arm have none."""
+    """The sentences on faults, each with the numbers of its faults."""
     numbers = texts("abi_base/specs/Fault.antt", "fault_number")
-    arms = r'((?:FaultKind::\w+[\s|]*)+|_|Some\(\w+\)) => \{?\s*(?:Some\()?"([^"{}]+)"'
-    found = [(words, [numbers[kind] for kind in re.findall(r"FaultKind::(\w+)", kinds)])
+    arms = r'((?:FaultKind::\w+[\s|]*)+|_|Some\(\w+\))\s*=>\s*\{?\s*(?:Some\(\s*)?"([^"{}]+)"'
+    found = [(words, [numbers[kind] for kind in re.findall(r"FaultKind::(\w+)", kinds)] or _numbers_by_default(words, numbers))
              for kinds, words in re.findall(arms, read("explain/src/faults.rt"))]
-    found += [(words, []) for words in re.findall(r'(?:^| )"([^"\n{}\\]+)"', re.sub(r'b"[^"]*"', "", read("explain/src/files.rt")), re.MULTILINE)]
+    text = re.sub(r'b"[^"]*"', "", read("explain/src/files.rt"))
+    for body in re.findall(r"^(?:pub\(crate\) )?fn \w+\(.*?^}", text, re.MULTILINE | re.DOTALL):
+        (function,) = re.findall(r"fn (\w+)\(", body)
+        kinds = re.findall(rf"FaultKind::(\w+) => {function}\(", text) + ["ShortFile"] * (function == "other_file")
+        found += [(words, [numbers[kind] for kind in kinds]) for words in re.findall(r'(?:^| )"([^"\n{}\\]+)"', body, re.MULTILINE)
+                  if function != "file_sentence"]
+    found += [(words, [numbers[kind]] if kind else _numbers_by_default(words, numbers))
+              for kind, words in re.findall(r'(?:FaultKind::(\w+)|_) =>\s*\{?\s*"([^"]+)"', text.partition("fn file_sentence")[2])]
     return {words: kinds for words, kinds in found if words.count(" ") > 2}
 
 
-def limits() -> list[Named]:
-    """The limits, in the order of docs/manual/LIMITS.md."""
-    return [Named(f"Limit::{row.row}", row.words, row.counted) for row in ROWS]
+def _numbers_by_default(words: str, numbers: dict[str, str]) -> list[str]:
+    """The number of the fault of a default arm, which the source does not name beside the words."""
+    return [numbers[kind] for begin, kind in _DEFAULTS.items() if words.startswith(begin)]
+
+
+def limits() -> list[tuple[Named, str]]:
+    """The limits, in the order of docs/manual/LIMITS.md, each with what tells it apart from others with the same words."""
+    return [(Named(f"Limit::{row.row}", row.words, row.counted), row.apart) for row in ROWS]
 
 
 def kinds_of_notes() -> list[tuple[Named, bool]]:
@@ -115,10 +134,48 @@ def variables() -> Iterator[tuple[str, list[str]]]:
     yield from sorted(found.items())
 
 
-def said() -> list[str]:
-    """Sentences of `abi` beside an answer, as far as they are fixed words: those of more than three words."""
+def said() -> Iterator[tuple[str, bool]]:
+    """Sentences of `abi` beside an answer, as far as they are fixed words: those of more than three words, each with whether it is on
+    the arguments."""
     paths = ("explain/specs/Sentences.antt", "explain/specs/OtherInputs.antt", "explain/specs/Programs.antt", "explain/specs/Tags.antt")
-    found = [words for path in paths for words in re.findall(r'codes "([^"]*)"', read(path))]
+    lines = [line for path in paths for line in read(path).splitlines()]
+    found = [(words, "SaysWrong" in line or line.startswith(("needless_words", "encoding_words")))
+             for line in lines for words in re.findall(r'codes "([^"]*)"', line)]
     code = "".join(line for line in read("explain/src/wrong.rt").splitlines() if not line.strip().startswith("//"))
-    found += [re.sub(r"{[^}]*}", "..", words) for words in re.findall(r'"([^"]+)"', code)]
-    return list(dict.fromkeys(words.strip(" ,") for words in found if words.count(" ") > 2 and not words.startswith("refused")))
+    found += [(re.sub(r"{[^}]*}", "..", words), True) for words in re.findall(r'"([^"]+)"', code)]
+    known = dict[str, bool]()
+    for words, is_wrong in found:
+        if words.count(" ") > 2 and not words.startswith("refused"):
+            known.setdefault(words.strip(" ,"), is_wrong)
+    yield from known.items()
+
+
+def said_by_tools() -> Iterator[tuple[Path, list[str]]]:
+    """What ends a tool, or makes it pass over an input: the modules of the tools, each with its sentences of more than two fixed words."""
+    for path in sorted(TOOLS.rglob("*.py")):
+        calls = [node for node in ast.walk(ast.parse(path.read_text(encoding="utf-8"))) if isinstance(node, ast.Call) and node.args]
+        named = [(getattr(call.func, "id", getattr(call.func, "attr", "")), call.args[0]) for call in calls]
+        words = [fixed_words(first) for name, first in named if name in ("Fault", "Refused", "ArgumentTypeError", "error")]
+        yield path, list(dict.fromkeys(one for one in words if one.count(" ") > 2))
+    path = TOOLS / "debhelper" / "dh_abi"
+    found = re.findall(r"""(?:error|warning)\((?:"([^"\\]+)|'([^']+)')""", path.read_text(encoding="utf-8"))
+    sentences = [re.sub(r"\$(?:\w+|!)(?:->)?(?:[\[{][^]}]*[]}])*", "..", double or single).strip(". :(") for double, single in found]
+    yield path, [one for one in sentences if one.count(" ") > 2]
+
+
+def fixed_words(text: ast.expr) -> str:
+    """A text of a module in Python, with two dots for each part that is not fixed, and none at its ends."""
+    parts = text.values if isinstance(text, ast.JoinedStr) else [text]
+    return "".join(str(part.value) if isinstance(part, ast.Constant) else ".." for part in parts).strip(". :")
+
+
+def scripts() -> Iterator[tuple[str, str]]:
+    """The scripts of tests/, bench/ and tools/, each with the first sentence on what it does."""
+    for path in chain.from_iterable(sorted((ROOT / folder).glob(form)) for folder, form in (
+            ("tests", "*.sh"), ("bench", "*.sh"), ("bench", "*.py"), ("tools", "make-*"))):
+        lines = path.read_text(encoding="utf-8").splitlines()
+        if path.suffix == ".sh":
+            words = " ".join(line[2:] for line in takewhile(lambda line: len(line) > 1, lines[1:]))
+        else:
+            words = ast.get_docstring(ast.parse("\n".join(lines))) or ""
+        yield str(path.relative_to(ROOT)), re.split(r"(?<=[.:])\s", " ".join(words.split()) + " ")[0].rstrip(".:")
