@@ -201,8 +201,8 @@ def tried_together(folder: Path, edits: list[Edit]) -> set[str]:
         for path, text in made.items():
             (crate / path).write_text(text, encoding="utf-8")
         only = [word for bodies in batch.values() for it in bodies for word in ("--only", it.path)]
-        words = ["rt", "check", crate.name, "--jobs", "1", *only]
-        ended = subprocess.run(words, cwd=folder, stdin=subprocess.DEVNULL, stdout=subprocess.PIPE, stderr=subprocess.STDOUT, text=True, check=False)
+        words = ["rt", "check", "--jobs", "1", *only]
+        ended = subprocess.run(words, cwd=crate, stdin=subprocess.DEVNULL, stdout=subprocess.PIPE, stderr=subprocess.STDOUT, text=True, check=False)
         for path, text in kept.items():
             (crate / path).write_text(text, encoding="utf-8")
         names = refused_in(crate.name, batch, ended.stdout)
