@@ -103,8 +103,9 @@ pub fn used(
     soname: Option<&[u8]>,
     old: &[Export],
 ) -> Result<Vec<bool>, NoMemory>
-    ensures { IfOk result (λ used. used.items
+    ensures used { IfOk result (λ used. used.items
         ≡ used_exports (plain_imports imports.now) (option_copied soname.entry) (plain_exports old.now)) }
+    ensures named { IfErr result (λ e. e ≡ Allocation) }
 {
     let wanted = wanted_of(alloc, imports, soname)?;
     let places = bind_all(alloc, &wanted, old)?;

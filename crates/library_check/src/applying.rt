@@ -110,10 +110,7 @@ fn used_of(alloc: Global, imports: &[Import], old: &Library<OldIx>) -> Result<Ve
     ensures used { IfOk result (λ used. used.items ≡ used_by (plain_imports imports.now) old.now) }
     ensures named { IfErr result (λ e. e ≡ Allocation) }
 {
-    match used(alloc, imports, old.soname(), old.exports()) {
-        Ok(used) => Ok(used),
-        Err(_) => Err(NoMemory::Allocation),
-    }
+    used(alloc, imports, old.soname(), old.exports())
 }
 
 // The exports and types of the old library that are not compared: those that a rule file suppresses, and each export to which no

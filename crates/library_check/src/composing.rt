@@ -213,7 +213,7 @@ fn read_one(alloc: Global, files: &ChainFiles) -> Result<Cert, Uncomposed>
     match read_cert(alloc, files.certificate1) {
         Ok(cert) => Ok(cert),
         Err(Refusal::Fault(fault)) => Err(Uncomposed::Certificate1(fault)),
-        Err(Refusal::NoMemory(_)) => Err(Uncomposed::NoMemory(NoMemory::Allocation)),
+        Err(Refusal::NoMemory(cause)) => Err(Uncomposed::NoMemory(cause)),
     }
 }
 
@@ -229,7 +229,7 @@ fn read_other(alloc: Global, files: &ChainFiles) -> Result<Cert, Uncomposed>
     match read_cert(alloc, files.certificate2) {
         Ok(cert) => Ok(cert),
         Err(Refusal::Fault(fault)) => Err(Uncomposed::Certificate2(fault)),
-        Err(Refusal::NoMemory(_)) => Err(Uncomposed::NoMemory(NoMemory::Allocation)),
+        Err(Refusal::NoMemory(cause)) => Err(Uncomposed::NoMemory(cause)),
     }
 }
 

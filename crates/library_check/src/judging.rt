@@ -86,10 +86,7 @@ pub(crate) fn certificate_text(alloc: Global, cert: &Cert) -> Result<Vec<u8>, No
     ensures spelled { IfOk result (λ text. IsSpelled text.items cert.now) }
     ensures named { IfErr result (λ e. e ≡ Allocation) }
 {
-    match write_cert(alloc, cert) {
-        Ok(text) => Ok(text),
-        Err(_) => Err(NoMemory::Allocation),
-    }
+    write_cert(alloc, cert)
 }
 
 /// What `check` says about two libraries and a rule file after they are read: yes with the certificate, or no with the texts that

@@ -43,7 +43,7 @@ fn read_old_certificate(alloc: Global, bytes: &[u8]) -> Result<Cert1, Unverified
     match read_cert_1(alloc, bytes) {
         Ok(cert) => Ok(cert),
         Err(Refusal::Fault(fault)) => Err(Unverified::Certificate(fault)),
-        Err(Refusal::NoMemory(_)) => Err(Unverified::NoMemory(NoMemory::Allocation)),
+        Err(Refusal::NoMemory(cause)) => Err(Unverified::NoMemory(cause)),
     }
 }
 
@@ -52,10 +52,7 @@ fn second_version(alloc: Global, cert: &Cert1) -> Result<Cert, NoMemory>
     ensures made { IfOk result (λ new. new ≡ certs.migrated cert.now) }
     ensures named { IfErr result (λ e. e ≡ Allocation) }
 {
-    match cert_text::migrate(alloc, cert) {
-        Ok(new) => Ok(new),
-        Err(_) => Err(NoMemory::Allocation),
-    }
+    cert_text::migrate(alloc, cert)
 }
 
 // What is said about a certificate of version 1 for two libraries and a rule file after they are read.

@@ -73,7 +73,7 @@ fn read_certificate(alloc: Global, bytes: &[u8]) -> Result<Cert, Unverified>
     match read_cert(alloc, bytes) {
         Ok(cert) => Ok(cert),
         Err(Refusal::Fault(fault)) => Err(Unverified::Certificate(fault)),
-        Err(Refusal::NoMemory(_)) => Err(Unverified::NoMemory(NoMemory::Allocation)),
+        Err(Refusal::NoMemory(cause)) => Err(Unverified::NoMemory(cause)),
     }
 }
 

@@ -10,8 +10,8 @@ use Rattle.app_check.specs.Used.{is_at}
 use Rattle.app_check.proofs.Places.{all_used}
 use Rattle.app_check.proofs.using.used.Goals as goal
 
-pub returns : goal.returns
-returns c =
+pub returns-clause-used : goal.returns-clause-used
+returns-clause-used c =
     c.in_ok-used.ensures.read
     ∙ all_used (option_copied c.args.soname) (plain_imports c.args.imports.now) (plain_exports c.args.old.now) (plain_exports c.in_ok-wanted.wanted.items) c.in_ok-places.places c.in_ok-found.found _
     c.in_ok-wanted.ensures.read
