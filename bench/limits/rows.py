@@ -43,6 +43,11 @@ class Row:
         """What tells the limit apart from others with the same words, if there are any."""
         return _APART.get(self.name, "")
 
+    @property
+    def named(self) -> str:
+        """The words, and what tells the limit apart: no two limits have the same."""
+        return f"{self.words} ({self.apart})" if self.apart else self.words
+
 
 def _times(name: str, counted: str, row: str, table: str) -> Row:
     """A limit that is a multiple of the bytes of a table."""

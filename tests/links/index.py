@@ -10,7 +10,7 @@ from typing import Iterable, Iterator
 from .linked import EVIDENCE, all_at, at, link, path_of, short, short_at, without_links
 from .markdown import DOCS, Section, anchor_of, anchors, sections, tables
 from .sentences import of_fault, rows_of_sentences
-from .sources import clauses, faults, kinds_of_notes, limits, options, rules, scripts, variables
+from .sources import clauses, faults, kinds_of_notes, limits, longest_crate, options, rules, scripts, variables
 from .words import (ARCHITECTURE, CONTRACTS, CONTRIBUTING, DECISIONS, FAQ, GAPS, GUIDE, LIMITS, MANUAL, PACKAGES, PROGRAMS, PROOFS, QUESTIONS,
                     README, RELEASES, REPORTS, RULE_FILES, SPECIFICATION)
 
@@ -25,8 +25,10 @@ _TYPES = ("pair_rules/specs/TypeRules.antt", "pair_rules/src/rules.rt")
 _FILES_OF_RULES = {"X1": _GONE, "X2": _GONE, "X3": _GONE, "X4": _EXPORTS, "X5": _EXPORTS, "X6": _EXPORTS}
 # Pages that scripts make, with a section for each crate.
 _MADE = {"AUDIT", "CONTRACTS"}
+# The head of the table of limits with a fault of their own.
+_WITH_FAULTS = ["What", "Limit", "Fault", "In the code"]
 # Tables whose rows have lines of their own in the index, by the heads of their first columns.
-_IN_LINES = {"What is counted / Words / Limit", "What / Limit / Fault", "Property / Read / Difference", "Crate / What it is for / Uses",
+_IN_LINES = {"What is counted / Words / Limit", " / ".join(_WITH_FAULTS), "Property / Read / Difference", "Crate / What it is for / Uses",
              "Word / What it means / File", "Rule / Broken if / Detail", "Promise / Clause", "What holds / Call", "Promise / Call and clause",
              "No / Name / Exactly where / AT", "Fault / Where"}
 
@@ -40,13 +42,22 @@ from the sources.
 
 """
 _LIMIT_SENTENCE = "Past a limit the sentence is `abi: past the limit on WORDS (LIMITS in abi(1))`, with status 4; with a fault, status 2. " \
-    "Some limits share their words: what stands in brackets tells them apart.\n\n"
+    "Some limits share their words: what stands in brackets tells them apart, and is not printed. Those called `Limit` " \
+    "are in `crates/abi_base/src/limit.rt`.\n\n"
+# The commands that print a refusal, from their least number on.
+_REFUSING = {70: "`verify`, `migrate`, `compose`", 81: "`compose`", 85: "`layout`"}
+# What a status of `abi` means, if its name does not say it.
+_OF_STATUS = {"5": " (a certificate; of `layout`, that no structure has the tag)"}
+# What variables and options are set to.
+_SET_TO = {"ABI_NOTES": " (1: notes; any other value: as none; off on a terminal: `2>FILE`)"}
+# What a line of a tool says of a library.
+_ANSWERS = "`no`, `gone`, `cannot tell`, `yes`, `new` or `left out`"
 _STATUSES = """\
 | Of | Status or answer | Where |
 |---|---|---|
 {rows}| `abi`, `abi-json` | all of these in short | {short} |
-| `abi-gate` | 0 yes, 1 no, 2 `cannot tell`, 64; for several libraries also `gone`, `new`, `left out` | {gate}, {several} |
-| `abi-packages` | 0 yes, 1 no, 2 `cannot tell`, 64; a line is `no`, `gone`, `cannot tell`, `yes`, `new` or `left out` | {packages}, {lines} |
+| `abi-gate` | 0 yes, 1 no, 2 `cannot tell`, 64; of several libraries a line is {answers} | {gate}, {several} |
+| `abi-packages` | 0 yes, 1 no, 2 `cannot tell`, 64; a line is {answers} | {packages}, {lines} |
 | `abi-release` | 0 yes, 1 no, 2 `cannot tell`, 64; an answer is yes, no, `gone`, `new` or `cannot tell` | {release} |
 | `abi-history` | 0 yes, 1 no, 2 `cannot tell`, 64 | {history} |
 | `abi-report` | 0 yes, 1 no, 2 `cannot tell`, 64 | {report} |
@@ -104,7 +115,9 @@ def kind_of(number: int) -> str:
 def rows_of_faults() -> Iterator[tuple[str, ...]]:
     """A row for each fault and each refusal of a certificate."""
     for fault in faults():
-        yield f"{kind_of(int(fault.word))} {fault.word} {fault.name}", fault.words, short(of_fault(fault))
+        number = int(fault.word)
+        by = [commands for least, commands in _REFUSING.items() if least <= number][-1:]
+        yield f"{kind_of(number)} {number} {fault.name}", fault.words + "".join(f" ({one})" for one in by), short(of_fault(fault))
 
 
 def numbers_of_no_fault() -> str:
@@ -116,24 +129,23 @@ def numbers_of_no_fault() -> str:
 def rows_of_limits() -> Iterator[tuple[str, ...]]:
     """A row for each limit, with how much it allows. No two of them begin alike."""
     begun = set[str]()
-    for limit, apart in limits():
+    for limit in limits():
         ((section, allowed),) = [(section, row[2]) for section in sections(LIMITS) for rows in tables(section.text) for row in rows
                                  if row[:2] == [limit.words, limit.word]]
-        begin = f"{limit.word} ({apart})" if apart else limit.word
-        if begin in begun:
-            raise ValueError(f"two limits begin with {begin}")
-        begun.add(begin)
-        yield begin, limit.words, allowed, short(section), f"`{limit.name}`"
+        if limit.word in begun:
+            raise ValueError(f"two limits begin with {limit.word}")
+        begun.add(limit.word)
+        yield limit.word, limit.words, allowed, short(section), f"`{limit.name}`"
     numbered = {fault.word: fault for fault in faults()}
     for section in sections(LIMITS):
-        for row in chain.from_iterable(rows[1:] for rows in tables(section.text) if rows[0] == ["What", "Limit", "Fault"]):
-            yield f"fault {row[2]} {numbered[row[2]].name}", row[0], row[1], short(section), "status 2"
+        for row in chain.from_iterable(rows[1:] for rows in tables(section.text) if rows[0] == _WITH_FAULTS):
+            yield f"fault {row[2]} {numbered[row[2]].name}", row[0], row[1], short(section), row[3]
 
 
 def others_of_limits() -> str:
     """What the page on limits says below the table of those with a fault of their own, and where the limits of the tools are."""
     (text,) = [section.text for section in sections(LIMITS) if section.title == "Limits with a fault of their own"]
-    (found,) = re.findall(r"A pattern of a rule file has at most .*", text)
+    (found,) = re.findall(r"`abi trial` makes at most .*", text)
     return f"\n{found} Limits of the tools: {at(PACKAGES, 'Limits')}, {at(RELEASES, 'Limits')}.\n"
 
 
@@ -179,7 +191,7 @@ def rows_of_options() -> Iterator[tuple[str, ...]]:
     yield "`--help`, `--version`", "all programs and tools", at(README, "Commands")
     for name, tools in chain(options(), variables()):
         places = [link(section) for section in where_option(name)] or [f"`man {tools[0]}`"]
-        yield f"`{name}`", ", ".join(f"`{tool}`" for tool in tools), ", ".join(places)
+        yield f"`{name}`{_SET_TO.get(name, '')}", ", ".join(f"`{tool}`" for tool in tools), ", ".join(places)
 
 
 def begin_of(text: str, most: int) -> str:
@@ -191,14 +203,16 @@ def begin_of(text: str, most: int) -> str:
     return " ".join(words[:ends[-1] if ends else most]).rstrip(",;:.") + " .."
 
 
-def rows_of_clauses() -> Iterator[tuple[str, ...]]:
-    """A row for each clause of `run`, with the begin of the first promise that it states."""
+def rows_of_clauses() -> str:
+    """A row for the clauses of `run` whose first promise is the same, with its begin, below the section that has them all."""
+    (section,) = [section for section in sections(PROOFS) if section.title == "The call that the program makes"]
+    promises = [row for rows in tables(section.text) if rows[0][-1] == "Clause" for row in rows[1:]]
+    found = dict[str, list[str]]()
     for label in clauses():
-        for section in sections(PROOFS):
-            cells = [row for rows in tables(section.text) if rows[0][-1] == "Clause" for row in rows[1:] if f"`{label}`" in row[-1]]
-            if cells:
-                yield f"`{label}`", begin_of(cells[0][0], 22), short(section)
-                break
+        first = next(row for row in promises if f"`{label}`" in row[-1])
+        found.setdefault(begin_of(first[0], 31), []).append(f"`{label}`")
+    rows = [(", ".join(labels), promise) for promise, labels in found.items()]
+    return f"{link(section)} has them whole, and `crates/abi_top/src/top.rt` in code.\n\n{table('Clause', 'What it promises', rows=rows)}"
 
 
 def rows_of_laws() -> Iterator[tuple[str, ...]]:
@@ -243,8 +257,11 @@ def rows_of_questions() -> Iterator[tuple[str, ...]]:
     """A row for each thing that a reader may want to do or to know."""
     (times,) = [section for section in sections(CONTRIBUTING) if section.title == "How long it takes"]
     (gate,) = re.findall(r"a gate from nothing took (.*?):", times.text)
+    (proofs,) = [rows for rows in tables(times.text) if rows[0] == ["Minutes", "Crates"]]
+    proof = f"{proofs[1][1].split(',')[0]}, {proofs[1][0].split(',')[0]}"
+    crate, minutes = longest_crate()
     for when, answer, places in QUESTIONS:
-        yield when, answer.format(gate=gate), all_at(places)
+        yield when, answer.format(gate=gate, crate=f"`{crate}`, {minutes} minutes", proof=proof), all_at(places)
     touched = sections(CONTRIBUTING)
     first = [section.title for section in touched].index("What a change touches") + 1
     for section in touched[first:]:
@@ -259,6 +276,15 @@ def shown(page: Path) -> list[Section]:
     return found[:1] if page == CONTRACTS else found
 
 
+def columns(heads: Iterable[str]) -> str:
+    """The columns of the tables of a section, each once, with those of a table together."""
+    known, told = set[str](), list[str]()
+    for head in heads:
+        told.append(" / ".join(column for column in head.split(" / ") if column not in known))
+        known.update(head.split(" / "))
+    return "; ".join(filter(None, told))
+
+
 def rows_of_tables() -> Iterator[tuple[str, ...]]:
     """A row for each section with tables whose rows have no lines here, with the heads of the tables; the first with its page's title."""
     named = set[Path]()
@@ -269,7 +295,7 @@ def rows_of_tables() -> Iterator[tuple[str, ...]]:
             if heads and section.page.stem not in _MADE and not _IN_LINES >= set(heads):
                 title = "" if page in named or first.title in page.stem else f" ({first.title})"
                 named.add(page)
-                yield link(section) + title, "; ".join(heads)
+                yield link(section) + title, columns(heads)
 
 
 def others(text: str) -> Iterator[str]:
@@ -286,10 +312,11 @@ def statuses() -> str:
     """Which section has which exit status."""
     answers = [row for section in sections(SPECIFICATION) if section.title == "Answers" for row in tables(section.text)[0][1:]]
     more = {"5": "; [what to do](GUIDE.md#notes-beside-an-answer)"}
-    rows = [f"| `abi`, `abi-json` | exit status {number}: {status} | {at(SPECIFICATION, 'Answers')}{more.get(number, '')} |\n"
+    rows = [f"| `abi`, `abi-json` | exit status {number}: {status}{_OF_STATUS.get(number, '')} | {at(SPECIFICATION, 'Answers')}"
+            f"{more.get(number, '')} |\n"
             for status, number, _ in answers]
     return _STATUSES.format(
-        rows="".join(rows), short=at(README, "Exit statuses"),
+        rows="".join(rows), answers=_ANSWERS, short=at(README, "Exit statuses"),
         gate=at(PACKAGES, 'A gate that can say "cannot tell"'), several=at(PACKAGES, "Several libraries in one run"),
         packages=at(PACKAGES, "Two sets of packages"), lines=at(PACKAGES, "What a line says"),
         release=at(RELEASES, "What comes out"), history=at(RELEASES, "The history of one library"),
@@ -311,7 +338,7 @@ def parts() -> Iterator[tuple[str, str]]:
     yield "Rule files", table("Property", "Read", "Where", rows=rows_of_properties())
     yield "Options and variables", table("Name", "Of", "Where", rows=rows_of_options())
     yield "Sentences", table("Sentence", "What it means; where", rows=rows_of_sentences())
-    yield "Clauses of run", table("Clause", "What it promises", "Where", rows=rows_of_clauses())
+    yield "Clauses of run", rows_of_clauses()
     yield "Other promises", table("Calls and laws", "What they promise", "Where", rows=rows_of_laws())
     yield "Gaps and decisions", table("Point", "Where", rows=rows_of_points())
     yield "Words", rows_of_words()

@@ -91,9 +91,9 @@ def _numbers_by_default(words: str, numbers: dict[str, str]) -> list[str]:
     return [numbers[kind] for begin, kind in _DEFAULTS.items() if words.startswith(begin)]
 
 
-def limits() -> list[tuple[Named, str]]:
-    """The limits, in the order of docs/manual/LIMITS.md, each with what tells it apart from others with the same words."""
-    return [(Named(f"Limit::{row.row}", row.words, row.counted), row.apart) for row in ROWS]
+def limits() -> list[Named]:
+    """The limits, in the order of docs/manual/LIMITS.md, by their words and what tells apart those with the same words."""
+    return [Named(f"Limit::{row.row}", row.named, row.counted) for row in ROWS]
 
 
 def kinds_of_notes() -> list[tuple[Named, bool]]:
@@ -167,6 +167,13 @@ def fixed_words(text: ast.expr) -> str:
     """A text of a module in Python, with two dots for each part that is not fixed, and none at its ends."""
     parts = text.values if isinstance(text, ast.JoinedStr) else [text]
     return "".join(str(part.value) if isinstance(part, ast.Constant) else ".." for part in parts).strip(". :")
+
+
+def longest_crate() -> tuple[str, str]:
+    """The crate that takes longest in bench/gate.tsv, with its minutes."""
+    lines = (ROOT / "bench" / "gate.tsv").read_text(encoding="utf-8").splitlines()
+    rows = [(name, minutes) for name, minutes in (line.split("\t") for line in lines if line[0] != "#") if name[0] != "("]
+    return max(rows, key=lambda row: float(row[1]))
 
 
 def scripts() -> Iterator[tuple[str, str]]:

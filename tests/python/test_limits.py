@@ -2,6 +2,7 @@
 
 from __future__ import annotations
 
+import re
 import sys
 from pathlib import Path
 
@@ -29,8 +30,15 @@ int f(struct p *p, struct p q) { return next(p->x) + q.y; }
 
 @pytest.mark.parametrize("row", ROWS, ids=lambda row: str(row.name))
 def test_the_page_has_the_limits_of_the_sources(row: Row) -> None:
-    assert f"| {row.counted} | {row.words} | {row.limit} |\n" in _PAGE.read_text()
+    assert f"| {row.counted} | {row.named} | {row.limit} |\n" in _PAGE.read_text()
     assert f"| {row.counted} | " in _MEASURED.read_text()
+
+
+def test_the_page_names_the_constants_of_limits_with_a_fault() -> None:
+    found = re.findall(r"^\| .* \| ([\d,]+) \| \d+ \| `([A-Z_]+)` in `crates/([^`]*)` \|$", _PAGE.read_text(), re.MULTILINE)
+    assert len(found) == 5
+    for limit, name, source in found:
+        assert f"{constant(source, name):,}" == limit
 
 
 def test_the_manual_page_has_the_limits_of_the_sources() -> None:
