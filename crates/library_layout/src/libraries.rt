@@ -78,7 +78,8 @@ pub fn layout_of(alloc: Global, library: &[u8], tag: &str) -> Result<Layout, NoL
 
 /// Tags similar to one for which `layout_of` finds no structure: up to five tags of structures with a definition that the exports
 /// of the library reach, the most similar one first, whether a structure with the given tag is declared, and whether a union or an
-/// enumeration has it. Only the first 64 bytes of tags are compared. Fails as `layout_of` does.
+/// enumeration has it. Only the first 64 bytes of tags are compared. Err means that the library is unreadable or memory ran out. The
+/// only limits that can be passed are those on reading the library.
 pub fn near_tags<'a>(alloc: Global, library: &'a [u8], tag: &str) -> Result<NearTags<'a>, NoLayout>
     requires short { length library.now ≤ input_limit }
     ensures readable { OnOk result (library_fault library.now ≡ None) }
@@ -88,6 +89,7 @@ pub fn near_tags<'a>(alloc: Global, library: &'a [u8], tag: &str) -> Result<Near
     ensures declared { IfOk result (λ near. IsTrue near.is_declared ↔ IsDeclaredTag library.now tag.now) }
     ensures other { IfOk result (λ near. IsOtherTag library.now tag.now near.other) }
     ensures unreadable { IfErr result (IsUnlaid library.now) }
+    ensures past { IfErr result (λ u. OnNoLayout u (LibraryPasses library.now)) }
 {
     let reached = match read(alloc, library) {
         Ok(reached) => reached,

@@ -1,8 +1,9 @@
 // Tags in a graph that are similar to a given one.
-ghost use Rattle.std.specs.Prelude.{◌≡◌, ◌≢◌, ◌<◌, ◌≤◌, ◌⊎◌, ◌&&◌, ◌==◌, [], true, false, length, map, not, take, IfOk, IfSome, IsSomeAnd};
+ghost use Rattle.std.specs.Prelude.{◌≡◌, ◌≢◌, ◌<◌, ◌≤◌, ◌⊎◌, ◌&&◌, ◌==◌, [], true, false, length, map, not, take, IfErr, IfOk, IfSome, IsSomeAnd};
 ghost use Rattle.std.specs.Option.{option_copied};
 ghost use Rattle.std.specs.List.{list_any};
 ghost use Rattle.std.specs.Str.{bytes_eq};
+ghost use Rattle.abi_base.specs.declared.fault.NoMemory.TheVariants.{Allocation};
 ghost use Rattle.type_print.specs.Structures.{has_layout};
 ghost use Rattle.library_layout.specs.Structures.{AreNearestIn, AreTagsIn, IsLeftOut, IsNearestBeside, PassesType, distance};
 
@@ -34,7 +35,8 @@ fn start_of(tag: &[u8]) -> &[u8]
 
 // The edit distance between two tags, in bytes, over their first bytes.
 fn edits_between(alloc: Global, from: &[u8], to: &[u8]) -> Result<usize, NoMemory>
-    ensures { IfOk result (λ edits. edits ≡ distance from.now to.now) }
+    ensures measured { IfOk result (λ edits. edits ≡ distance from.now to.now) }
+    ensures named { IfErr result (λ e. e ≡ Allocation) }
 {
     let edits = generic_levenshtein(alloc, start_of(from), start_of(to))?;
     Ok(edits)
@@ -65,9 +67,10 @@ fn near_of<'a, Ix: Index>(
     ensures tagged { IfOk result (λ found. IfSome found (λ near. has_layout view.now near.tag.now ≡ true)) }
     ensures new { IfOk result (λ found. IfSome found (λ near. list_any (λ t. bytes_eq t.now near.tag.now) tags.now
         ≡ false)) }
-    ensures named { IfOk result (λ found. IfSome found (λ near. near.tag.now ≢ [])) }
+    ensures some_tag { IfOk result (λ found. IfSome found (λ near. near.tag.now ≢ [])) }
     ensures measured { IfOk result (λ found. IfSome found (λ near. near.edits ≡ distance near.tag.now tag.now)) }
     ensures passed { IfOk result (PassesType view.now (map (λ t. t.now) tags.now)) }
+    ensures named { IfErr result (λ e. e ≡ Allocation) }
 {
     if !is_tagged(view) || is_among(tags, view.tag) {
         return Ok(None);
@@ -109,6 +112,7 @@ fn nearest<'a, Ix: Index>(
         (λ near. IsLeftOut graph.now (map (λ t. t.now) tags.now) near.now)) }
     ensures nearest { IfOk result (λ found. IsNearestBeside graph.now tag.now (map (λ t. t.now) tags.now)
         (option_copied found)) }
+    ensures named { IfErr result (λ e. e ≡ Allocation) }
 {
     let mut found = None;
     for number in 0..graph.len() {
@@ -130,6 +134,7 @@ pub(crate) fn near_in<'a, Ix: Index>(
     ensures few { IfOk result (λ tags. length tags.items ≤ 5) }
     ensures tags { IfOk result (λ tags. AreTagsIn graph.now (map (λ t. t.now) tags.items)) }
     ensures nearest { IfOk result (λ tags. AreNearestIn graph.now tag.now (map (λ t. t.now) tags.items)) }
+    ensures named { IfErr result (λ e. e ≡ Allocation) }
 {
     let mut tags = Vec::new(alloc);
     'near: while tags.len() < MOST_TAGS {

@@ -1,5 +1,6 @@
 // Rows of members that do not overlap and end inside the structure: each bit is in one row.
-ghost use Rattle.std.specs.Prelude.{◌≡◌, ◌<◌, ◌≤◌, ◌+◌, ◌^◌, ◌++◌, List, IfOk, OnOk, length, drop, max};
+ghost use Rattle.std.specs.Prelude.{◌≡◌, ◌<◌, ◌≤◌, ◌+◌, ◌^◌, ◌++◌, List, IfOk, IfErr, OnOk, length, drop, max};
+ghost use Rattle.abi_base.specs.declared.fault.NoMemory.TheVariants.{Allocation};
 ghost use Rattle.type_print.specs.declared.extent.Extent.{Extent as Stand};
 ghost use Rattle.type_print.specs.Members.{member_at, AreInOrder};
 ghost use Rattle.type_print.specs.Members as spec;
@@ -66,6 +67,7 @@ fn push_gap(
         → IsSwept all whole bits rows.old.items held (drop k members.now)
         → IsSwept all whole bits rows.new.items up (drop k members.now)) }
     ensures reached { IfOk result (λ up. (member_at members.now k).bit ≤ up) }
+    ensures named { IfErr result (λ e. e ≡ Allocation) }
 {
     if members[k].bit <= held {
         return Ok(held);
@@ -85,7 +87,8 @@ fn end_after(held: u64, member: &Extent) -> u64
 
 // Adds the padding after all members, if there is any.
 fn push_padding(rows: &mut Vec<LayoutRow>, held: u64, bits: u64) -> Result<(), NoMemory>
-    ensures { OnOk result (rows.new.items ≡ rows.old.items ++ padding_rows held bits) }
+    ensures added { OnOk result (rows.new.items ≡ rows.old.items ++ padding_rows held bits) }
+    ensures named { IfErr result (λ e. e ≡ Allocation) }
 {
     if held < bits {
         rows.push(gap(held, None, bits))?;
@@ -101,8 +104,9 @@ pub fn fitting_rows(
 ) -> Result<Vec<LayoutRow>, NoMemory>
     requires order { AreInOrder members.now }
     requires fits { Fits members.now bits }
-    ensures { IfOk result (λ rows. (all : List Stand)
+    ensures exact { IfOk result (λ rows. (all : List Stand)
         → AreExactly (IsFittingRow members.now bits) (key_of all) rows.items) }
+    ensures named { IfErr result (λ e. e ≡ Allocation) }
 {
     let mut rows = Vec::new(alloc);
     let mut held = 0;

@@ -1,6 +1,7 @@
 // The text of a layout.
-ghost use Rattle.std.specs.Prelude.{◌≡◌, ◌<◌, ◌++◌, length, IfOk, OnOk, flat_map, string_bytes};
+ghost use Rattle.std.specs.Prelude.{◌≡◌, ◌<◌, ◌++◌, length, IfOk, IfErr, OnOk, flat_map, string_bytes};
 ghost use Rattle.std.specs.List.{list_any};
+ghost use Rattle.abi_base.specs.declared.fault.NoMemory.TheVariants.{Allocation};
 ghost use Rattle.abi_types.specs.Parts.{plain_part};
 ghost use Rattle.abi_types.specs.Sorts as sorts;
 ghost use Rattle.type_print.specs.Rows as rows_spec;
@@ -169,6 +170,7 @@ pub fn layout_lines<Ix: Index>(
 ) -> Result<String, NoMemory>
     requires { AreInside view.now rows.now }
     ensures text { IfOk result (λ text. string_bytes text ≡ layout_text view.now rows.now) }
+    ensures named { IfErr result (λ e. e ≡ Allocation) }
 {
     let mut text = String::new(alloc);
     push_head(alloc, &mut text, view, rows)?;

@@ -1,5 +1,6 @@
 // Members that share bits with earlier ones, and members that end past the size of the structure.
-ghost use Rattle.std.specs.Prelude.{◌≡◌, ◌<◌, ◌≤◌, ◌++◌, ℕ, List, IfOk, OnOk, length};
+ghost use Rattle.std.specs.Prelude.{◌≡◌, ◌<◌, ◌≤◌, ◌++◌, ℕ, List, IfOk, IfErr, OnOk, length};
+ghost use Rattle.abi_base.specs.declared.fault.NoMemory.TheVariants.{Allocation};
 ghost use Rattle.type_print.specs.declared.extent.Extent.{Extent as Stand};
 ghost use Rattle.type_print.specs.Members.{end_of, member_at, AreInOrder, NamesAll};
 ghost use Rattle.type_print.specs.Rows.{AreExactly, IsOverlapRow, IsOutsideRow, key_of};
@@ -36,7 +37,8 @@ fn push_overlap(
 ) -> Result<(), NoMemory>
     requires inside { k < length members.now }
     requires first { first ≤ k }
-    ensures { OnOk result (rows.new.items ≡ rows.old.items ++ overlap_rows members.now k first) }
+    ensures added { OnOk result (rows.new.items ≡ rows.old.items ++ overlap_rows members.now k first) }
+    ensures named { IfErr result (λ e. e ≡ Allocation) }
 {
     let member = members[k];
     if first == k || member.width == 0 {
@@ -55,8 +57,9 @@ fn push_overlap(
 // The search never goes back: an extent that ends before a member ends before all later members too.
 pub fn overlaps(alloc: Global, members: &[Extent]) -> Result<Vec<LayoutRow>, NoMemory>
     requires { AreInOrder members.now }
-    ensures { IfOk result (λ rows. (all : List Stand) → NamesAll all members.now
+    ensures exact { IfOk result (λ rows. (all : List Stand) → NamesAll all members.now
         → AreExactly (IsOverlapRow members.now) (key_of all) rows.items) }
+    ensures named { IfErr result (λ e. e ≡ Allocation) }
 {
     let mut rows = Vec::new(alloc);
     let mut first = 0;
@@ -69,7 +72,8 @@ pub fn overlaps(alloc: Global, members: &[Extent]) -> Result<Vec<LayoutRow>, NoM
 
 // Adds a row for a member if it ends past the size.
 fn push_outside(rows: &mut Vec<LayoutRow>, member: &Extent, bits: u64) -> Result<(), NoMemory>
-    ensures { OnOk result (rows.new.items ≡ rows.old.items ++ outside_rows bits member.now) }
+    ensures added { OnOk result (rows.new.items ≡ rows.old.items ++ outside_rows bits member.now) }
+    ensures named { IfErr result (λ e. e ≡ Allocation) }
 {
     if member.end() > bits as u128 {
         rows.push(LayoutRow::Outside { part: member.part })?;
@@ -80,8 +84,9 @@ fn push_outside(rows: &mut Vec<LayoutRow>, member: &Extent, bits: u64) -> Result
 /// A row for each of the ordered members that ends past the size in bits.
 pub fn outsides(alloc: Global, members: &[Extent], bits: u64) -> Result<Vec<LayoutRow>, NoMemory>
     requires { AreInOrder members.now }
-    ensures { IfOk result (λ rows. (all : List Stand) → NamesAll all members.now
+    ensures exact { IfOk result (λ rows. (all : List Stand) → NamesAll all members.now
         → AreExactly (IsOutsideRow members.now bits) (key_of all) rows.items) }
+    ensures named { IfErr result (λ e. e ≡ Allocation) }
 {
     let mut rows = Vec::new(alloc);
     for member in members {

@@ -1,6 +1,7 @@
 // The rows of the members of a structure.
-ghost use Rattle.std.specs.Prelude.{◌≡◌, ◌==◌, ◌&&◌, ◌++◌, List, IfOk, length, map};
+ghost use Rattle.std.specs.Prelude.{◌≡◌, ◌==◌, ◌&&◌, ◌++◌, List, IfOk, IfErr, length, map};
 ghost use Rattle.std.specs.List.Sorted.{IsPermutation, IsSorted};
+ghost use Rattle.abi_base.specs.declared.fault.NoMemory.TheVariants.{Allocation};
 ghost use Rattle.type_print.specs.declared.extent.Extent.{Extent as Stand};
 ghost use Rattle.type_print.specs.Members.{extent_cmp, AreInOrder, AreNamed, AreNumbered};
 ghost use Rattle.type_print.specs.Members as spec;
@@ -28,7 +29,9 @@ fn clashing_rows(
     overlaps: &[LayoutRow],
     outsides: &[LayoutRow],
 ) -> Result<Vec<LayoutRow>, NoMemory>
-    ensures { IfOk result (λ rows. rows.items ≡ (map spec.row_of members.now ++ overlaps.now) ++ outsides.now) }
+    ensures joined { IfOk result (λ rows. rows.items
+        ≡ (map spec.row_of members.now ++ overlaps.now) ++ outsides.now) }
+    ensures named { IfErr result (λ e. e ≡ Allocation) }
 {
     let mut rows = Vec::new(alloc);
     for member in members {
@@ -50,8 +53,9 @@ fn are_none(overlaps: &[LayoutRow], outsides: &[LayoutRow]) -> bool
 fn sorted_rows(alloc: Global, sorted: &[Extent], bits: u64) -> Result<Vec<LayoutRow>, NoMemory>
     requires order { AreInOrder sorted.now }
     requires named { AreNamed sorted.now }
-    ensures { IfOk result (λ rows. (members : List Stand) → AreNumbered members → IsPermutation members sorted.now
-        → AreRows members bits rows.items) }
+    ensures rows { IfOk result (λ rows. (members : List Stand) → AreNumbered members
+        → IsPermutation members sorted.now → AreRows members bits rows.items) }
+    ensures named { IfErr result (λ e. e ≡ Allocation) }
 {
     let overlaps = overlaps(alloc, sorted)?;
     let outsides = outsides(alloc, sorted, bits)?;
@@ -70,7 +74,8 @@ pub fn rows_of(
     bits: u64,
 ) -> Result<Vec<LayoutRow>, NoMemory>
     requires { AreNumbered members.items }
-    ensures { IfOk result (λ rows. AreRows members.items bits rows.items) }
+    ensures rows { IfOk result (λ rows. AreRows members.items bits rows.items) }
+    ensures named { IfErr result (λ e. e ≡ Allocation) }
 {
     sort(&mut members);
     let rows = sorted_rows(alloc, members.as_slice(), bits)?;

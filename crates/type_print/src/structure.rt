@@ -1,5 +1,6 @@
 // The members and the layout of a structure in a graph.
-ghost use Rattle.std.specs.Prelude.{◌≡◌, ◌<◌, ◌≤◌, ◌^◌, ℕ, length, IfOk, IfSome, Some};
+ghost use Rattle.std.specs.Prelude.{◌≡◌, ◌<◌, ◌≤◌, ◌^◌, ℕ, length, IfOk, IfErr, IfSome, Some};
+ghost use Rattle.abi_base.specs.declared.fault.NoMemory.TheVariants.{Allocation};
 ghost use Rattle.abi_types.specs.Graphs.{part_at, to_of, view_at};
 ghost use Rattle.abi_types.specs.Parts.{plain_part};
 ghost use Rattle.type_print.specs.Laws.{CoverEachBitOnce, IsClean, NameClashes};
@@ -61,7 +62,8 @@ fn members_of<Ix: Index>(
     view: &View<Ix>,
 ) -> Result<Vec<Extent>, NoMemory>
     requires { (k to : ℕ) → to_of (part_at view.now k) ≡ Some to → to < length graph.now }
-    ensures { IfOk result (λ members. members.items ≡ spec.members_of graph.now view.now) }
+    ensures members { IfOk result (λ members. members.items ≡ spec.members_of graph.now view.now) }
+    ensures named { IfErr result (λ e. e ≡ Allocation) }
 {
     let mut members = Vec::new(alloc);
     for position in 0..view.parts_len() {
@@ -85,6 +87,7 @@ pub fn layout<Ix: Index>(
         → CoverEachBitOnce (bits_at graph.now (Ix.number_of ix)) rows.items) }
     ensures clashes { IfOk result (λ rows. NameClashes (members_at graph.now (Ix.number_of ix))
         (bits_at graph.now (Ix.number_of ix)) rows.items) }
+    ensures named { IfErr result (λ e. e ≡ Allocation) }
 {
     graph.known();
     let view = graph.view(ix);

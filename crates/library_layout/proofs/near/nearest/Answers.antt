@@ -30,7 +30,7 @@ loop-number-preserved g c =
     let Named : Option Near → Type 0 = λ o. IfSome o (λ n. n.tag.now ≢ []) in
     let new : (n : Near) → near ≡ Some n → IsNew n = λ n is.
     let there : has_layout c.view.result.now n.tag.now ≡ true = subst Tagged is c.in_ok-near.ensures.tagged in
-    (new_tag nodes number tags n.tag.now inside (subst (λ (v : PlainView). has_layout v n.tag.now ≡ true) view there) (subst Unknown is c.in_ok-near.ensures.new), subst Named is c.in_ok-near.ensures.named) in
+    (new_tag nodes number tags n.tag.now inside (subst (λ (v : PlainView). has_layout v n.tag.now ≡ true) view there) (subst Unknown is c.in_ok-near.ensures.new), subst Named is c.in_ok-near.ensures.some_tag) in
     let measured : (n : Near) → near ≡ Some n → IsMeasured n = λ n is. subst (λ (o : Option Near). IfSome o IsMeasured) is c.in_ok-near.ensures.measured in
     record {
       new = kept_by IsNew found near result c.nearer-found.ensures.one c.loop-number.invariant.new new;

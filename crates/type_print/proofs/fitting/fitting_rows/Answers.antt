@@ -35,8 +35,8 @@ walk-preserved c =
     (drop_more members k no_member inside) c.in_ok-held.ensures.reached grown (c.in_ok-held.ensures.swept all members (c.walk.invariant.swept all))) in
     record { fits = (swept []).fits; swept = swept }
 
-pub returns : goal.returns
-returns c = λ all.
+pub returns-clause-exact : goal.returns-clause-exact
+returns-clause-exact c = λ all.
     let past : length c.args.members.now ≤ c.walk.k = omega arith in
     swept_end all c.args.members.now c.args.bits c.walk.rows.items c.push_padding.new.rows.items c.walk.held (drop c.walk.k c.args.members.now) (drop_all c.walk.k c.args.members.now past)
-    c.in_ok-push_padding.ensures (c.walk.invariant.swept all)
+    c.in_ok-push_padding.ensures.added (c.walk.invariant.swept all)

@@ -17,11 +17,11 @@ walk-preserved c =
       kept = overlapped_more sorted c.requires c.walk.k c.walk.first c.first_past-first.result inside c.walk.invariant.kept c.first_past-first.ensures.inside c.first_past-first.ensures.before c.first_past-first.ensures.past;
       rows = λ all names.
           overlaps_more sorted c.requires c.walk.k c.walk.first c.first_past-first.result inside c.walk.invariant.kept c.first_past-first.ensures.inside c.first_past-first.ensures.before c.first_past-first.ensures.past all names
-          c.walk.rows.items (c.walk.invariant.rows all names) c.push_overlap.new.rows.items c.in_ok-push_overlap.ensures;
+          c.walk.rows.items (c.walk.invariant.rows all names) c.push_overlap.new.rows.items c.in_ok-push_overlap.ensures.added;
     }
 
-pub returns : goal.returns
-returns c = λ all names.
+pub returns-clause-exact : goal.returns-clause-exact
+returns-clause-exact c = λ all names.
     let done : c.walk.k ≡ length c.args.members.now = omega arith in
     let P : ℕ → Type 0 = λ k. AreExactly (IsOverlapUpto c.args.members.now k) (key_of all) c.walk.rows.items in
     overlaps_end c.args.members.now c.requires all c.walk.rows.items (subst P done (c.walk.invariant.rows all names))

@@ -15,5 +15,5 @@ sorted_rows-requires c =
       named = subst Q (sym c.as_slice.ensures.value) (c.args.members.items, sorted_names c.args.members.items c.sort.new.members.items c.args.bits c.requires c.sort.ensures.moved);
     }
 
-pub returns : goal.returns
-returns c = c.in_ok-rows.ensures c.args.members.items c.requires (subst (IsPermutation c.args.members.items) (sym c.as_slice.ensures.value) c.sort.ensures.moved)
+pub returns-clause-rows : goal.returns-clause-rows
+returns-clause-rows c = c.in_ok-rows.ensures.rows c.args.members.items c.requires (subst (IsPermutation c.args.members.items) (sym c.as_slice.ensures.value) c.sort.ensures.moved)

@@ -21,7 +21,7 @@ members_of-requires g c = λ k to is.
     c.known.ensures.inside (g.Ix.Index.number_of c.args.ix) k to (subst P c.view-view.ensures is)
 
 pub rows_of-requires : goal.rows_of-requires
-rows_of-requires g c = subst AreNumbered (sym c.in_ok-members.ensures) (members_numbered c.args.graph.now c.view-view.result.now)
+rows_of-requires g c = subst AreNumbered (sym c.in_ok-members.ensures.members) (members_numbered c.args.graph.now c.view-view.result.now)
 
 -- the rows are those of the node
 are_rows : (nodes : List PlainNode) (v w : PlainView) (members : List Extent) (bits : ℕ) (rows : List LayoutRow) → v ≡ w → members ≡ members_of nodes v → bits ≡ bits_of v → AreRows members bits rows → AreRows (members_of nodes w) (bits_of w) rows
@@ -36,10 +36,11 @@ returns g c =
     let v = view_at nodes (g.Ix.Index.number_of c.args.ix) in
     let rows = c.in_ok-rows.rows.items in
     let are : AreRows (members_of nodes v) (bits_of v) rows =
-    are_rows nodes c.view-view.result.now v c.in_ok-members.members.items c.bits_of-bits.result rows c.view-view.ensures c.in_ok-members.ensures c.bits_of-bits.ensures c.in_ok-rows.ensures in
+    are_rows nodes c.view-view.result.now v c.in_ok-members.members.items c.bits_of-bits.result rows c.view-view.ensures c.in_ok-members.ensures.members c.bits_of-bits.ensures c.in_ok-rows.ensures.rows in
     record {
       rows = are;
       inside = rows_inside nodes v (bits_of v) rows are;
       covered = λ clean. covers (members_of nodes v) (bits_of v) rows (members_numbered nodes v) are clean;
       clashes = name_clashes (members_of nodes v) (bits_of v) rows are;
+      named = tt;
     }
