@@ -1,4 +1,6 @@
+mod CommandLemmas
 mod LineLemmas
+mod NameLemmas
 mod NearLemmas
 mod ProgramLemmas
 mod RuleLineLemmas

@@ -1,3 +1,5 @@
+pub mod Applications
+pub mod Faults
 pub mod Limits
 pub mod Lines
 pub mod NearCommands

@@ -1,6 +1,9 @@
--- The command that is offered in place of an unknown one.
-use Rattle.std.specs.Prelude.{◌≡◌, ◌<◌, ◌≤◌, ℕ, List, [], ◌∷◌, Option, Some, None, codes, length, nat_eq, slice_get}
-use Rattle.std.specs.List.{concat}
+-- The command that is offered in place of an unknown one, and the arguments of a command.
+use Rattle.std.specs.Prelude.{◌≡◌, ◌==◌, ◌<◌, ◌≤◌, ℕ, Bool, false, List, [], ◌∷◌, Option, Some, None, codes, decimal, if◌then◌else◌, length, nat_eq, slice_get}
+use Rattle.std.specs.List.{concat, join_with_byte}
+use Rattle.std.specs.Option.{option_map_or}
+use Rattle.std.specs.Str.{bytes_eq}
+use Rattle.cli_args.specs.Commands.{command_named, row_of}
 use Rattle.strsim.specs.Edits.{levenshtein_row}
 
 -- the names of the commands, in the order in which a sentence lists them
@@ -33,12 +36,40 @@ IsOffered word None = (k : ℕ) (name : List ℕ) → slice_get command_names k 
 abbrev pub offer_words : (name : List ℕ) → List ℕ
 offer_words name = concat (codes "it is no command; did you mean " ∷ name ∷ codes "?" ∷ [])
 
+-- names in one text, with commas between them and `and` before the last one
+abbrev pub listed : List (List ℕ) → List ℕ
+listed [] = []
+listed (name ∷ []) = name
+listed (name ∷ last ∷ []) = concat (name ∷ codes " and " ∷ last ∷ [])
+listed (name ∷ next ∷ third ∷ rest) = concat (name ∷ codes ", " ∷ listed (next ∷ third ∷ rest) ∷ [])
+
+-- the words that list all commands
+abbrev pub list_words : List ℕ
+list_words = concat (codes "it is no command; the commands are " ∷ listed command_names ∷ [])
+
 abbrev pub OffersIn : (words : List ℕ) → Option (List ℕ) → Type 0
 OffersIn words (Some name) = words ≡ offer_words name
-OffersIn words None = Unit {0}
+OffersIn words None = words ≡ list_words
 
--- the words about an unknown command: if one is near, they offer the nearest one
+-- the words about an unknown command: they offer the nearest one, and list all if none is near
 pub record IsOfUnknown (word words : List ℕ) : Type 0 where
   pub near : Option (List ℕ)
   pub offered : IsOffered word near
   pub offers : OffersIn words near
+
+-- ---- arguments
+
+-- the name is this word
+abbrev pub is_named : Option (List ℕ) → (word : List ℕ) → Bool
+is_named None word = false
+is_named (Some name) word = bytes_eq name word
+
+-- the arguments of a command as the usage names them, with a space (32) between them
+abbrev pub arguments_of : (command : List ℕ) → List ℕ
+arguments_of command = option_map_or (λ name. join_with_byte 32 (row_of name).arguments) (command_named command) (codes "other words")
+
+-- the words about a command that is given this many arguments, which is not their number
+abbrev pub count_words : (command : List ℕ) (given : ℕ) → List ℕ
+count_words command given =
+    if given == 1 then concat (codes "it takes " ∷ arguments_of command ∷ codes ", and 1 word is given" ∷ [])
+    else concat (codes "it takes " ∷ arguments_of command ∷ codes ", and " ∷ decimal given ∷ codes " words are given" ∷ [])

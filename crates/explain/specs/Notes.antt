@@ -71,13 +71,13 @@ TellsJudged Yes remark files notes = TellsCompared remark files notes
 TellsJudged No remark files notes = TellsCompared remark files notes
 TellsJudged Done remark files notes = TellsCompared remark files notes
 
--- The notes on an outcome: on exports without a type, on a refused certificate, on the fault of an input, or on the cause of a
--- failure.
-abbrev pub Tells : Outcome → List PlainFile → List (List ℕ) → Type 0
-Tells (Judged verdict remark) files notes = TellsJudged verdict remark files notes
-Tells (Unreadable which fault) files notes = OnName files which (λ path. IsOne notes (SaysFault path fault)) (notes ≡ [])
-Tells (ReadFault which) files notes = OnName files which (λ path. IsOne notes (λ note. (reason : List ℕ) × (note ≡ said_of path reason))) (notes ≡ [])
-Tells (NoMemory cause) files notes = notes ≡ memory_sentence cause ∷ []
-Tells WriteFault files notes = notes ≡ codes "writing failed" ∷ []
-Tells Help files notes = notes ≡ []
-Tells Usage files notes = notes ≡ []
+-- The notes on an outcome: on exports without a type, on a refused certificate, on the fault of an input with these bytes, or on the
+-- cause of a failure. `reason` says why the reading of an input failed.
+abbrev pub Tells : Outcome → (bytes reason : List ℕ) → List PlainFile → List (List ℕ) → Type 0
+Tells (Judged verdict remark) bytes reason files notes = TellsJudged verdict remark files notes
+Tells (Unreadable which fault) bytes reason files notes = OnName files which (λ path. IsOne notes (SaysFault path fault bytes)) (notes ≡ [])
+Tells (ReadFault which) bytes reason files notes = OnName files which (λ path. notes ≡ said_of path reason ∷ []) (notes ≡ [])
+Tells (NoMemory cause) bytes reason files notes = notes ≡ memory_sentence cause ∷ []
+Tells WriteFault bytes reason files notes = notes ≡ codes "writing failed" ∷ []
+Tells Help bytes reason files notes = notes ≡ []
+Tells Usage bytes reason files notes = notes ≡ []

@@ -1,5 +1,5 @@
 -- The sentences for users.
-use Rattle.std.specs.Prelude.{◌≡◌, ◌==◌, ◌&&◌, ℕ, Bool, List, [], ◌∷◌, codes, decimal, if◌then◌else◌, nat_lt}
+use Rattle.std.specs.Prelude.{◌≡◌, ◌==◌, ◌&&◌, ◌++◌, ℕ, Bool, false, List, [], ◌∷◌, codes, decimal, if◌then◌else◌, nat_lt}
 use Rattle.std.specs.List.{concat}
 use Rattle.abi_base.specs.Fault.{fault_number, fault_name}
 use Rattle.abi_base.specs.declared.fault.Fault.{Fault}
@@ -8,8 +8,9 @@ use Rattle.abi_base.specs.declared.remark.Remark.{Remark}
 use Rattle.cli_args.specs.WrongWords.{PlainWrong, missing_command, unknown_command, needless_option, wrong_count, unknown_style, wrong_number, unknown_option, missing_value, repeated_option, needless_value, other_words}
 use Rattle.cli_args.specs.declared.wrong.OptionName.{OptionName}
 use Rattle.cli_args.specs.declared.wrong.OptionName.TheVariants.{Rules, Report}
+use Rattle.explain.specs.Faults.{fault_words, has_more}
 use Rattle.explain.specs.Lines.{in_line}
-use Rattle.explain.specs.NearCommands.{IsOfUnknown}
+use Rattle.explain.specs.NearCommands.{IsOfUnknown, count_words}
 
 -- the sentence about an input at a path
 abbrev pub said_of : List ℕ → List ℕ → List ℕ
@@ -19,10 +20,13 @@ said_of path said = concat (in_line path ∷ codes ": " ∷ in_line said ∷ [])
 abbrev pub fault_mark : Fault → List ℕ
 fault_mark fault = concat (codes " (fault " ∷ decimal (fault_number fault.kind) ∷ codes " " ∷ fault_name fault.kind ∷ codes " at " ∷ decimal fault.at ∷ codes ")" ∷ [])
 
--- The sentence about an input at a path that has this fault: the fault in words, and then its number, its name and its position.
-pub record SaysFault (path : List ℕ) (fault : Fault) (text : List ℕ) : Type 0 where
-  pub why : List ℕ
-  pub is : text ≡ concat (said_of path why ∷ fault_mark fault ∷ [])
+-- The sentence about an input at a path, with these bytes, that has this fault: the fault in words, and then its number, its name and
+-- its position. `more` says what a rule file may have in place of the line; only an unknown
+-- section and an unknown property have it.
+pub record SaysFault (path : List ℕ) (fault : Fault) (bytes text : List ℕ) : Type 0 where
+  pub more : List ℕ
+  pub only : has_more fault.kind ≡ false → more ≡ []
+  pub is : text ≡ concat (said_of path (fault_words fault bytes ++ more) ∷ fault_mark fault ∷ [])
 
 -- the words about a library some of whose exports have no type in the debug information
 abbrev pub untyped_words : SizedExports → List ℕ
@@ -59,11 +63,7 @@ refused_words old new = concat (codes "the certificate does not prove that " ∷
 abbrev pub uncomposed_words : (second first last : List ℕ) → List ℕ
 uncomposed_words second first last = concat (codes "with " ∷ second ∷ codes " it does not prove that " ∷ last ∷ codes " may replace " ∷ first ∷ [])
 
--- the text is a sentence about the word
-abbrev pub SaysOf : List ℕ → List ℕ → Type 0
-SaysOf word text = (words : List ℕ) × (text ≡ said_of word words)
-
--- the sentence about an unknown command, which offers the nearest one if one is near
+-- the sentence about an unknown command, which offers the nearest one, or lists all if none is near
 abbrev pub SaysUnknown : List ℕ → List ℕ → Type 0
 SaysUnknown word text = (words : List ℕ) × IsOfUnknown word words × (text ≡ said_of word words)
 
@@ -77,7 +77,7 @@ abbrev pub SaysWrong : PlainWrong → List ℕ → Type 0
 SaysWrong missing_command text = text ≡ codes "no command is given"
 SaysWrong (unknown_command word) text = SaysUnknown word text
 SaysWrong (needless_option command option) text = text ≡ said_of command (needless_words option)
-SaysWrong (wrong_count command wanted given) text = SaysOf command text
+SaysWrong (wrong_count command wanted given) text = text ≡ said_of command (count_words command given)
 SaysWrong (unknown_style word) text = text ≡ said_of word (codes "it is no style of reports; the styles are text, table, counts, first and own")
 SaysWrong (wrong_number word) text = text ≡ said_of word (codes "it is no number from 1 to 50000 in decimal")
 SaysWrong (unknown_option word) text = text ≡ said_of word (codes "it is no option; the options are --rules FILE and --report STYLE")

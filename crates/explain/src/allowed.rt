@@ -1,6 +1,9 @@
 // What a rule file may have in place of an unknown section or property.
+ghost use Rattle.std.specs.Prelude.{◌≡◌, [], IfOk, false, string_bytes};
+ghost use Rattle.explain.specs.Faults as spec;
+
 use abi_base::{Fault, FaultKind};
-use std::alloc::AllocError;
+use std::alloc::{AllocError, Global};
 
 // A longer word is quoted by its first characters.
 const LONGEST: usize = 60;
@@ -92,28 +95,40 @@ fn allowed_properties(rules: &str, number: u64, line: &str) -> &'static str {
     }
 }
 
-/// Appends the line of a rule file with an unknown section or property, and what is allowed in its place. It appends nothing to the
-/// words for another fault, and nothing if the bytes have no such line.
-pub(crate) fn push_allowed(
-    text: &mut String,
-    fault: Fault,
-    bytes: &[u8],
-) -> Result<(), AllocError> {
+// Appends the line of a rule file with an unknown section or property, and what is allowed in its place. It appends nothing if the
+// bytes have no such line.
+fn push_allowed(text: &mut String, fault: Fault, bytes: &[u8]) -> Result<(), AllocError> {
     let Ok(rules) = str::from_utf8(bytes) else {
         return Ok(());
     };
     let Some(line) = line_at(rules, fault.at) else {
         return Ok(());
     };
+    push_quoted(text, line)?;
     match fault.kind {
-        FaultKind::Section => {
-            push_quoted(text, line)?;
-            text.push_str(SECTIONS)
-        }
-        FaultKind::Property => {
-            push_quoted(text, line)?;
-            text.push_str(allowed_properties(rules, fault.at, line))
-        }
-        _ => Ok(()),
+        FaultKind::Section => text.push_str(SECTIONS),
+        _ => text.push_str(allowed_properties(rules, fault.at, line)),
     }
+}
+
+// Whether the words for a fault go on with what is allowed.
+fn has_more(kind: FaultKind) -> bool
+    ensures { result ≡ spec.has_more kind }
+{
+    match kind {
+        FaultKind::Section | FaultKind::Property => true,
+        _ => false,
+    }
+}
+
+/// The line of a rule file with an unknown section or property, and what is allowed in its place. It is empty for another fault, and
+/// if the bytes have no such line.
+pub(crate) fn allowed_in(alloc: Global, fault: Fault, bytes: &[u8]) -> Result<String, AllocError>
+    ensures { IfOk result (λ more. spec.has_more fault.kind ≡ false → string_bytes more ≡ []) }
+{
+    let mut more = String::new(alloc);
+    if has_more(fault.kind) {
+        push_allowed(&mut more, fault, bytes)?;
+    }
+    Ok(more)
 }

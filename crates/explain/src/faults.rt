@@ -1,8 +1,14 @@
 // The words for faults.
+ghost use Rattle.std.specs.Prelude.{◌≡◌, option_map};
+ghost use Rattle.explain.specs.Faults.{entry_words, info_words, line_words, numbered_words, table_words, unit_words};
+
 use abi_base::FaultKind;
 
 /// The words for a fault in the section, the symbol, the entry or the definition with a number.
-pub(crate) fn numbered_sentence(kind: FaultKind) -> &'static str {
+#[tactic(auto, unfolding(crate::specs::Faults::numbered_words))]
+pub(crate) fn numbered_sentence(kind: FaultKind) -> &'static str
+    ensures { result.now ≡ numbered_words kind }
+{
     match kind {
         FaultKind::SectionRange => "does not lie inside the file, which may have been cut short",
         FaultKind::SectionName => "has a name that does not end inside the section of names",
@@ -21,7 +27,10 @@ pub(crate) fn numbered_sentence(kind: FaultKind) -> &'static str {
 }
 
 /// The words for a fault of a whole table, if a fault of this kind at entry 0 means that.
-pub(crate) fn whole_table_sentence(kind: FaultKind) -> Option<&'static str> {
+#[tactic(auto, unfolding(crate::specs::Faults::table_words))]
+pub(crate) fn whole_table_sentence(kind: FaultKind) -> Option<&'static str>
+    ensures { option_map (λ words. words.now) result ≡ table_words kind }
+{
     match kind {
         FaultKind::SymbolTable => Some("the table of dynamic symbols is damaged"),
         FaultKind::DynamicTable => Some(
@@ -32,24 +41,33 @@ pub(crate) fn whole_table_sentence(kind: FaultKind) -> Option<&'static str> {
 }
 
 // The words for a fault of a debug information unit.
-fn unit_sentence(kind: FaultKind) -> &'static str {
+#[tactic(auto, unfolding(crate::specs::Faults::unit_words))]
+fn unit_sentence(kind: FaultKind) -> Option<&'static str>
+    ensures { option_map (λ words. words.now) result ≡ unit_words kind }
+{
     match kind {
-        FaultKind::UnitHeader => "the header of the unit is damaged",
-        FaultKind::DwarfVersion => {
-            "the unit is of a version of DWARF that is not read; compile with -gdwarf-5 or -gdwarf-4"
-        }
-        FaultKind::UnitType => {
-            "the unit is of a type that is not read, as split debug information is; compile without -gsplit-dwarf"
-        }
-        FaultKind::AddressSize => "the unit has addresses that are not of eight bytes",
-        FaultKind::Dwarf64 => "the unit is in the 64-bit format of DWARF, which is not read",
-        FaultKind::TypeOffset => "the type unit has no entry where its type should stand",
-        _ => "the language of the unit is not C or assembler; only units in these are read",
+        FaultKind::UnitHeader => Some("the header of the unit is damaged"),
+        FaultKind::DwarfVersion => Some(
+            "the unit is of a version of DWARF that is not read; compile with -gdwarf-5 or -gdwarf-4",
+        ),
+        FaultKind::UnitType => Some(
+            "the unit is of a type that is not read, as split debug information is; compile without -gsplit-dwarf",
+        ),
+        FaultKind::AddressSize => Some("the unit has addresses that are not of eight bytes"),
+        FaultKind::Dwarf64 => Some("the unit is in the 64-bit format of DWARF, which is not read"),
+        FaultKind::TypeOffset => Some("the type unit has no entry where its type should stand"),
+        FaultKind::Language => Some(
+            "the language of the unit is not C or assembler; only units in these are read",
+        ),
+        _ => None,
     }
 }
 
 // The words for a fault of a debug information entry.
-fn entry_sentence(kind: FaultKind) -> &'static str {
+#[tactic(auto, unfolding(crate::specs::Faults::entry_words))]
+fn entry_sentence(kind: FaultKind) -> &'static str
+    ensures { result.now ≡ entry_words kind }
+{
     match kind {
         FaultKind::AbbrevCode => "the entry has an abbreviation that is not in its table",
         FaultKind::Form => "the entry has an attribute of a form that is not known",
@@ -73,21 +91,20 @@ fn entry_sentence(kind: FaultKind) -> &'static str {
 }
 
 /// The words for a fault in `.debug_info`.
-pub(crate) fn info_sentence(kind: FaultKind) -> &'static str {
-    match kind {
-        FaultKind::UnitHeader
-        | FaultKind::DwarfVersion
-        | FaultKind::UnitType
-        | FaultKind::AddressSize
-        | FaultKind::Dwarf64
-        | FaultKind::TypeOffset
-        | FaultKind::Language => unit_sentence(kind),
-        _ => entry_sentence(kind),
+pub(crate) fn info_sentence(kind: FaultKind) -> &'static str
+    ensures { result.now ≡ info_words kind }
+{
+    match unit_sentence(kind) {
+        Some(words) => words,
+        None => entry_sentence(kind),
     }
 }
 
 /// The words for a fault in a line of a rule file or of a certificate.
-pub(crate) fn line_sentence(kind: FaultKind) -> &'static str {
+#[tactic(auto, unfolding(crate::specs::Faults::line_words))]
+pub(crate) fn line_sentence(kind: FaultKind) -> &'static str
+    ensures { result.now ≡ line_words kind }
+{
     match kind {
         FaultKind::BadText => "it is not UTF-8",
         FaultKind::RuleLine => "it is no comment, no section and no property of a section",

@@ -1,4 +1,9 @@
 // The kind of a file that is not a shared object.
+ghost use Rattle.std.specs.Prelude.{◌≡◌, slice_get};
+ghost use Rattle.abi_base.specs.Numbers.{number_at};
+ghost use Rattle.explain.specs.Faults.{class_words, file_words, order_words, other_file_words, short_words, type_words};
+ghost use Rattle.explain.specs.Faults as spec;
+
 use crate::constants::{
     E_TYPE, EI_CLASS, EI_DATA, ELF_MAGIC, ELFCLASS32, ELFDATA2MSB, ET_CORE, ET_EXEC, ET_REL,
 };
@@ -15,27 +20,22 @@ const DEBIAN_ARCHIVE: &[u8] = b"!<arch>\ndebian-binary";
 // The magic number of an RPM package.
 const RPM_MAGIC: &[u8] = b"\xed\xab\xee\xdb";
 
-// The usual beginnings of linker scripts.
-const SCRIPT_STARTS: [&[u8]; 5] = [
-    b"/* GNU ld script",
-    b"INPUT",
-    b"GROUP",
-    b"OUTPUT_FORMAT",
-    b"OUTPUT_ARCH",
-];
-
-// Whether a file begins as a linker script does.
-fn is_script(bytes: &[u8]) -> bool {
-    for start in SCRIPT_STARTS {
-        if bytes.starts_with(start) {
-            return true;
-        }
-    }
-    false
+// Whether a file begins as a linker script usually does.
+fn is_script(bytes: &[u8]) -> bool
+    ensures { result ≡ spec.is_script bytes.now }
+{
+    bytes.starts_with(b"/* GNU ld script")
+        || bytes.starts_with(b"INPUT")
+        || bytes.starts_with(b"GROUP")
+        || bytes.starts_with(b"OUTPUT_FORMAT")
+        || bytes.starts_with(b"OUTPUT_ARCH")
 }
 
 // The words for a file that is not an ELF file.
-fn other_file(bytes: &[u8]) -> &'static str {
+#[tactic(auto, unfolding(crate::specs::Faults::other_file_words))]
+fn other_file(bytes: &[u8]) -> &'static str
+    ensures { result.now ≡ other_file_words bytes.now }
+{
     if bytes.starts_with(DEBIAN_ARCHIVE) {
         "it is a Debian package; give a shared object (.so) out of it, or compare packages with abi-packages"
     } else if bytes.starts_with(RPM_MAGIC) {
@@ -50,7 +50,9 @@ fn other_file(bytes: &[u8]) -> &'static str {
 }
 
 // The words for an ELF file that is not a shared object.
-fn other_object(bytes: &[u8]) -> &'static str {
+fn other_object(bytes: &[u8]) -> &'static str
+    ensures { result.now ≡ type_words (number_at 2 bytes.now 16) }
+{
     match u16_at(bytes, E_TYPE) {
         Some(ET_REL) => "it is an object file (.o), not a shared object",
         Some(ET_EXEC) => {
@@ -62,7 +64,9 @@ fn other_object(bytes: &[u8]) -> &'static str {
 }
 
 // The words for a file that is too short for an ELF header.
-fn short_file(bytes: &[u8], length: u64) -> &'static str {
+fn short_file(bytes: &[u8], length: u64) -> &'static str
+    ensures { result.now ≡ short_words length bytes.now }
+{
     if length == 0 {
         "it is empty"
     } else if bytes.starts_with(ELF_MAGIC) {
@@ -73,7 +77,9 @@ fn short_file(bytes: &[u8], length: u64) -> &'static str {
 }
 
 // The words for a file that is not 64-bit.
-fn other_class(bytes: &[u8]) -> &'static str {
+fn other_class(bytes: &[u8]) -> &'static str
+    ensures { result.now ≡ class_words (slice_get bytes.now 4) }
+{
     match bytes.get(EI_CLASS) {
         Some(&ELFCLASS32) => "it is a 32-bit file; only 64-bit shared objects for x86-64 are read",
         _ => "it is not a 64-bit file; only 64-bit shared objects for x86-64 are read",
@@ -81,7 +87,9 @@ fn other_class(bytes: &[u8]) -> &'static str {
 }
 
 // The words for a file that is not little-endian.
-fn other_order(bytes: &[u8]) -> &'static str {
+fn other_order(bytes: &[u8]) -> &'static str
+    ensures { result.now ≡ order_words (slice_get bytes.now 5) }
+{
     match bytes.get(EI_DATA) {
         Some(&ELFDATA2MSB) => "it is a big-endian file; only shared objects for x86-64 are read",
         _ => "it is not a little-endian file; only shared objects for x86-64 are read",
@@ -90,7 +98,10 @@ fn other_order(bytes: &[u8]) -> &'static str {
 
 /// The words for a fault of this kind in the header of a file, at this position. The bytes may be empty, if they cannot be read a
 /// second time.
-pub(crate) fn file_sentence(kind: FaultKind, at: u64, bytes: &[u8]) -> &'static str {
+#[tactic(auto, unfolding(crate::specs::Faults::file_words))]
+pub(crate) fn file_sentence(kind: FaultKind, at: u64, bytes: &[u8]) -> &'static str
+    ensures { result.now ≡ file_words kind at bytes.now }
+{
     match kind {
         FaultKind::ShortFile => short_file(bytes, at),
         FaultKind::NotElf => other_file(bytes),

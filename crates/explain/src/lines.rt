@@ -1,10 +1,17 @@
 // Texts that fit in one line.
-ghost use Rattle.std.specs.Prelude.{◌≡◌, ◌++◌, IfOk, IsTrue, OnOk, string_bytes};
+ghost use Rattle.std.specs.Prelude.{◌≡◌, ◌==◌, ◌++◌, IfOk, IsTrue, OnOk, string_bytes};
 ghost use Rattle.explain.specs.Lines as spec;
 ghost use Rattle.explain.specs.Lines.{in_line, is_one_line, shown_char};
 ghost use Rattle.explain.specs.Sentences.{said_of};
 
 use std::alloc::{AllocError, Global};
+
+/// Whether a sentence speaks of one thing, so that its noun is singular.
+pub(crate) fn is_one(count: usize) -> bool
+    ensures { result ≡ (count == 1) }
+{
+    count == 1
+}
 
 // Whether a character is a control character or the backslash.
 fn is_escaped(c: char) -> bool

@@ -44,8 +44,8 @@ fn on_fault(
     fault: Fault,
     bytes: &[u8],
 ) -> Result<Vec<String>, NoMemory>
-    ensures tells { IfOk result (λ notes. Tells (outcomes.Unreadable which fault) (map plain_file files.now)
-        (map string_bytes notes.items)) }
+    ensures tells { IfOk result (λ notes. Tells (outcomes.Unreadable which fault) bytes.now []
+        (map plain_file files.now) (map string_bytes notes.items)) }
     ensures lines { IfOk result (λ notes. All (λ note. IsTrue (is_one_line note)) (map string_bytes notes.items)) }
 {
     match name_of(files, which) {
@@ -61,7 +61,7 @@ fn on_failure(
     which: Input,
     reason: &str,
 ) -> Result<Vec<String>, NoMemory>
-    ensures tells { IfOk result (λ notes. Tells (outcomes.ReadFault which) (map plain_file files.now)
+    ensures tells { IfOk result (λ notes. Tells (outcomes.ReadFault which) [] reason.now (map plain_file files.now)
         (map string_bytes notes.items)) }
     ensures lines { IfOk result (λ notes. All (λ note. IsTrue (is_one_line note)) (map string_bytes notes.items)) }
 {
@@ -248,7 +248,8 @@ pub fn notes_on(
     bytes: &[u8],
     reason: &str,
 ) -> Result<Vec<String>, NoMemory>
-    ensures tells { IfOk result (λ notes. Tells outcome (map plain_file files.now) (map string_bytes notes.items)) }
+    ensures tells { IfOk result (λ notes. Tells outcome bytes.now reason.now (map plain_file files.now)
+        (map string_bytes notes.items)) }
     ensures lines { IfOk result (λ notes. All (λ note. IsTrue (is_one_line note)) (map string_bytes notes.items)) }
 {
     match outcome {

@@ -1,4 +1,7 @@
 // The position of a fault.
+ghost use Rattle.std.specs.Prelude.{◌≡◌};
+ghost use Rattle.explain.specs.Faults as spec;
+
 use abi_base::FaultKind;
 
 /// The unit of a fault's position.
@@ -25,7 +28,10 @@ pub(crate) enum Place {
 }
 
 /// The unit of the position of a fault of this kind.
-pub(crate) fn place_of(kind: FaultKind) -> Place {
+#[tactic(auto, unfolding(crate::specs::Faults::place_of))]
+pub(crate) fn place_of(kind: FaultKind) -> Place
+    ensures { result ≡ spec.place_of kind }
+{
     match kind {
         FaultKind::ShortFile
         | FaultKind::NotElf

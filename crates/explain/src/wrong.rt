@@ -1,11 +1,11 @@
 // Arguments that form no request.
-ghost use Rattle.std.specs.Prelude.{◌≡◌, IfOk, IsTrue, option_map, slice_get, string_bytes};
+ghost use Rattle.std.specs.Prelude.{◌≡◌, IfOk, IsTrue, codes, map, option_map, slice_get, slice_index_or, string_bytes};
 ghost use Rattle.cli_args.specs.WrongWords.{plain_wrong};
 ghost use Rattle.explain.specs.Lines.{is_one_line};
-ghost use Rattle.explain.specs.NearCommands.{command_names, IsOffered, IsOfUnknown};
-ghost use Rattle.explain.specs.Sentences.{SaysOf, SaysUnknown, SaysWrong, encoding_words, needless_words, said_of};
+ghost use Rattle.explain.specs.NearCommands.{command_names, IsOffered, IsOfUnknown, arguments_of, count_words, is_named};
+ghost use Rattle.explain.specs.Sentences.{SaysUnknown, SaysWrong, encoding_words, needless_words, said_of};
 
-use crate::lines::said;
+use crate::lines::{is_one, said};
 use abi_base::NoMemory;
 use cli_args::commands::COMMANDS;
 use cli_args::{OptionName, WrongWords};
@@ -18,7 +18,13 @@ const FAR: usize = 3;
 // A longer word is not similar to any command.
 const LONGEST: usize = 16;
 
-// The words for an unknown style, a number that no trial may have, and an unknown option.
+// The words for the arguments of an unknown command.
+const OTHER_WORDS: &str = "other words";
+
+// The words for an unknown command that no command is near, an unknown style, a number that no trial may have, and an unknown option.
+const COMMAND_LIST: &str =
+    "it is no command; the commands are check, app, verify, compose, migrate, exports, entries, layout and trial";
+
 const UNKNOWN_STYLE: &str =
     "it is no style of reports; the styles are text, table, counts, first and own";
 
@@ -57,14 +63,37 @@ fn near_command(alloc: Global, word: &str) -> Result<Option<&'static str>, Alloc
     Ok(found)
 }
 
+// The arguments of the command at a position of the table, as the usage names them.
+#[tactic(auto, unfolding(cli_args::specs::Commands::command_named))]
+fn command_words(index: usize) -> &'static str
+    ensures { result.now ≡ slice_index_or (map arguments_of command_names) index (codes "other words") }
+{
+    match COMMANDS.get(index) {
+        Some((_, words)) => *words,
+        None => OTHER_WORDS,
+    }
+}
+
+// Whether the command at a position of the table has this name.
+fn is_command(index: usize, word: &str) -> bool
+    ensures { result ≡ is_named (slice_get command_names index) word.now }
+{
+    match command_name(index) {
+        Some(name) => name == word,
+        None => false,
+    }
+}
+
 // The arguments that a command takes.
-fn words_behind(command: &str) -> &'static str {
-    for (name, words) in COMMANDS.iter() {
-        if *name == command {
-            return *words;
+fn words_behind(command: &str) -> &'static str
+    ensures { result.now ≡ arguments_of command.now }
+{
+    for index in 0..COMMANDS.len() {
+        if is_command(index, command) {
+            return command_words(index);
         }
     }
-    "other words"
+    OTHER_WORDS
 }
 
 // The words for an option that a command does not take.
@@ -83,32 +112,16 @@ fn unknown_command(alloc: Global, word: &str) -> Result<String, AllocError>
 {
     match near_command(alloc, word)? {
         Some(near) => format!(in alloc; "it is no command; did you mean {near}?"),
-        None => {
-            let mut words = String::from_str(alloc, "it is no command; the commands are ")?;
-            push_commands(&mut words)?;
-            Ok(words)
-        }
+        None => String::from_str(alloc, COMMAND_LIST),
     }
-}
-
-// Appends the names of the commands, with `and` before the last one.
-fn push_commands(text: &mut String) -> Result<(), AllocError> {
-    let last = COMMANDS.len() - 1;
-    for (index, (name, _)) in COMMANDS.iter().enumerate() {
-        if index == last {
-            text.push_str(" and ")?;
-        } else if index > 0 {
-            text.push_str(", ")?;
-        }
-        text.push_str(name)?;
-    }
-    Ok(())
 }
 
 // The words for a command with a wrong number of arguments.
-fn wrong_count(alloc: Global, command: &str, given: usize) -> Result<String, AllocError> {
+fn wrong_count(alloc: Global, command: &str, given: usize) -> Result<String, AllocError>
+    ensures { IfOk result (λ words. string_bytes words ≡ count_words command.now given) }
+{
     let wanted = words_behind(command);
-    if given == 1 {
+    if is_one(given) {
         format!(in alloc; "it takes {wanted}, and 1 word is given")
     } else {
         format!(in alloc; "it takes {wanted}, and {given} words are given")
@@ -134,7 +147,7 @@ fn command_sentence(alloc: Global, word: &str) -> Result<String, NoMemory>
 
 // The sentence on a command with a wrong number of arguments.
 fn count_sentence(alloc: Global, command: &str, given: usize) -> Result<String, NoMemory>
-    ensures says { IfOk result (λ text. SaysOf command.now (string_bytes text)) }
+    ensures says { IfOk result (λ text. string_bytes text ≡ said_of command.now (count_words command.now given)) }
     ensures line { IfOk result (λ text. IsTrue (is_one_line (string_bytes text))) }
 {
     let words = wrong_count(alloc, command, given)?;

@@ -5,4 +5,4 @@ use Rattle.explain.proofs.notes.notes_on.Goals as goal
 
 pub returns-in-Judged-clause-tells : goal.returns-in-Judged-clause-tells
 returns-in-Judged-clause-tells c =
-    subst (λ o. IfOk c.on_verdict.result (λ notes. Tells o (map plain_file c.args.files.now) (map string_bytes notes.items))) (sym c.in-Judged.is) c.on_verdict.ensures.tells
+    subst (λ o. IfOk c.on_verdict.result (λ notes. Tells o c.args.bytes.now c.args.reason.now (map plain_file c.args.files.now) (map string_bytes notes.items))) (sym c.in-Judged.is) c.on_verdict.ensures.tells
