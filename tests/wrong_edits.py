@@ -181,32 +181,50 @@ def batches_of(crate: Path, edits: list[Edit]) -> list[dict[Edit, frozenset[Func
 def refused_in(crate: str, batch: dict[Edit, frozenset[Function]], said: str) -> set[str]:
     """The names of the edits of a batch that a check of the crate refuses: it proves none of their functions. None, if it comes to no
     end, or if a function that no edit changes is not proved."""
-    verdicts = dict(re.findall(rf"^fn {crate}::(\S+?)(?:::{{\S+)?: (\w+)", said, re.MULTILINE))
-    unproved = {path for path, verdict in verdicts.items() if verdict != "proved"}
+    verdicts = re.findall(rf"^fn {crate}::(\S+): (\w+)", said, re.MULTILINE)
+    # A closure stands as `MODULE::fn::FUNCTION::..`.
+    unproved = {path.replace("::fn::", "::").removeprefix("fn::") + "::" for path, verdict in verdicts if verdict != "proved"}
     changed = {it.path for bodies in batch.values() for it in bodies}
-    if not re.search(r"^(logic=not-proved|only=)", said, re.MULTILINE) or not unproved <= changed:
+    refused = {it for it in changed if any(path.startswith(f"{it}::") for path in unproved)}
+    known = all(any(path.startswith(f"{it}::") for it in changed) for path in unproved)
+    if not re.search(r"^(logic=not-proved|only=)", said, re.MULTILINE) or not known:
         return set()
-    return {edit.name for edit, bodies in batch.items() if unproved >= {it.path for it in bodies}}
+    return {edit.name for edit, bodies in batch.items() if refused >= {it.path for it in bodies}}
+
+
+def linked(one: str, other: str) -> None:
+    """Makes the second file the first one by another name, or a copy of it on another file system."""
+    try:
+        os.link(one, other)
+    except OSError:
+        shutil.copy2(one, other)
+
+
+def checked(folder: Path, crate: str, texts: dict[str, str], functions: Iterable[Function]) -> str:
+    """What a check of these functions of a crate says, with these texts in place of its own. It is made on a copy, since other checks
+    use the crate as it stands."""
+    with tempfile.TemporaryDirectory(prefix="abi-edits-") as name:
+        shutil.copytree(folder, name, copy_function=linked, dirs_exist_ok=True)
+        place = Path(name, "crates", crate)
+        for path, text in texts.items():
+            (place / path).unlink()
+            (place / path).write_text(text, encoding="utf-8")
+        words = ["rt", "check", "--jobs", "1", *(word for it in functions for word in ("--only", it.path))]
+        ended = subprocess.run(words, cwd=place, stdin=subprocess.DEVNULL, stdout=subprocess.PIPE, stderr=subprocess.STDOUT, text=True, check=False)
+        return ended.stdout
 
 
 def tried_together(folder: Path, edits: list[Edit]) -> set[str]:
-    """Tries edits of one crate on the copy, several in each check, and gives the names of those that are refused."""
-    crate = folder / "crates" / edits[0].crate
+    """Tries edits of one crate, several in each check, and gives the names of those that are refused."""
+    crate = edits[0].crate
     refused: set[str] = set()
-    for batch in batches_of(crate, edits):
-        made = changed_texts(crate, [change for edit in batch for change in changes_of(edit)])
+    for batch in batches_of(folder / "crates" / crate, edits):
+        made = changed_texts(folder / "crates" / crate, [change for edit in batch for change in changes_of(edit)])
         if isinstance(made, str):
             continue
-        kept = {path: (crate / path).read_text(encoding="utf-8") for path in made}
-        for path, text in made.items():
-            (crate / path).write_text(text, encoding="utf-8")
-        only = [word for bodies in batch.values() for it in bodies for word in ("--only", it.path)]
-        words = ["rt", "check", "--jobs", "1", *only]
-        ended = subprocess.run(words, cwd=crate, stdin=subprocess.DEVNULL, stdout=subprocess.PIPE, stderr=subprocess.STDOUT, text=True, check=False)
-        for path, text in kept.items():
-            (crate / path).write_text(text, encoding="utf-8")
-        names = refused_in(crate.name, batch, ended.stdout)
-        print(f"{crate.name}: {len(names)} of {len(batch)} edits were refused in one check", flush=True)
+        said = checked(folder, crate, made, [it for bodies in batch.values() for it in bodies])
+        names = refused_in(crate, batch, said)
+        print(f"{crate}: {len(names)} of {len(batch)} edits were refused in one check", flush=True)
         refused |= names
     return refused
 
