@@ -65,7 +65,7 @@ def faults() -> list[Named]:
 def said_of_faults() -> dict[str, list[str]]:
     """The sentences on faults, each with the numbers of its faults. Those of a default arm have none."""
     numbers = texts("abi_base/specs/Fault.antt", "fault_number")
-    arms = r'((?:FaultKind::\w+[\s|]*)+|_|Some\(\w+\)) => \{?\s*(?:Some\()?"([^"{}]+)"'
+    arms = r'((?:FaultKind::\w+[\s|]*)+|_|Some\(\w+\)) => \{?\s*(?:Some\(\s*)?"([^"{}]+)"'
     found = [(words, [numbers[kind] for kind in re.findall(r"FaultKind::(\w+)", kinds)])
              for kinds, words in re.findall(arms, read("explain/src/faults.rt"))]
     found += [(words, []) for words in re.findall(r'(?:^| )"([^"\n{}\\]+)"', re.sub(r'b"[^"]*"', "", read("explain/src/files.rt")), re.MULTILINE)]
@@ -117,8 +117,9 @@ def variables() -> Iterator[tuple[str, list[str]]]:
 
 def said() -> list[str]:
     """Sentences of `abi` beside an answer, as far as they are fixed words: those of more than three words."""
-    paths = ("explain/specs/Sentences.antt", "explain/specs/OtherInputs.antt", "explain/specs/Programs.antt", "explain/specs/Tags.antt")
+    paths = ("explain/specs/Sentences.antt", "explain/specs/OtherInputs.antt", "explain/specs/Programs.antt", "explain/specs/Tags.antt",
+             "explain/specs/Applications.antt")
     found = [words for path in paths for words in re.findall(r'codes "([^"]*)"', read(path))]
     code = "".join(line for line in read("explain/src/wrong.rt").splitlines() if not line.strip().startswith("//"))
     found += [re.sub(r"{[^}]*}", "..", words) for words in re.findall(r'"([^"]+)"', code)]
-    return list(dict.fromkeys(words.strip(" ,") for words in found if words.count(" ") > 2 and not words.startswith("refused")))
+    return list(dict.fromkeys(words.strip(" ,;") for words in found if words.count(" ") > 2 and not words.startswith("refused")))
