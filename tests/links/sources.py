@@ -137,7 +137,8 @@ def variables() -> Iterator[tuple[str, list[str]]]:
 def said() -> Iterator[tuple[str, bool]]:
     """Sentences of `abi` beside an answer, as far as they are fixed words: those of more than three words, each with whether it is on
     the arguments."""
-    paths = ("explain/specs/Sentences.antt", "explain/specs/OtherInputs.antt", "explain/specs/Programs.antt", "explain/specs/Tags.antt")
+    paths = ("explain/specs/Sentences.antt", "explain/specs/OtherInputs.antt", "explain/specs/Programs.antt", "explain/specs/Tags.antt",
+             "explain/specs/Applications.antt")
     lines = [line for path in paths for line in read(path).splitlines()]
     found = [(words, "SaysWrong" in line or line.startswith(("needless_words", "encoding_words")))
              for line in lines for words in re.findall(r'codes "([^"]*)"', line)]

@@ -88,3 +88,45 @@ format_member command outcome text ms =
     (before_status (codes "format") (number (unsigned 1)) command outcome ms refl
     (stays (codes "format") (codes "answer") (string (answer_word outcome)) (number (unsigned 1)) (commanded command ms) refl
     (stays (codes "format") (codes "command") (string command) (number (unsigned 1)) (formatted ms) refl (get_member-put (codes "format") (number (unsigned 1)) ms))))
+
+-- a member of the other members
+pub kept_member : (q : List ℕ) (v : Data) (command : List ℕ) (outcome : Outcome) (text : Data) (ms : Members)
+    → bytes_eq q (codes "text") ≡ false → bytes_eq q (codes "untyped") ≡ false → bytes_eq q (codes "fault") ≡ false → bytes_eq q (codes "status") ≡ false
+    → bytes_eq q (codes "answer") ≡ false → bytes_eq q (codes "command") ≡ false → bytes_eq q (codes "format") ≡ false
+    → get_member q ms ≡ Some v → HasMember q v (object (with_all command outcome text ms))
+kept_member q v command outcome text ms one two three four five six seven there =
+    before_fault q v command outcome text ms one two three
+    (before_status q v command outcome ms four
+    (stays q (codes "answer") (string (answer_word outcome)) v (commanded command ms) five
+    (stays q (codes "command") (string command) v (formatted ms) six (stays q (codes "format") (number (unsigned 1)) v ms seven there))))
+
+-- the members about the inputs
+pub inputs_put : (inputs types places : Data) (ms : Members) → get_member (codes "inputs") (put (codes "inputs") inputs (put (codes "types") types (put (codes "places") places ms))) ≡ Some inputs
+inputs_put inputs types places ms = get_member-put (codes "inputs") inputs (put (codes "types") types (put (codes "places") places ms))
+
+pub types_put : (inputs types places : Data) (ms : Members) → get_member (codes "types") (put (codes "inputs") inputs (put (codes "types") types (put (codes "places") places ms))) ≡ Some types
+types_put inputs types places ms =
+    stays (codes "types") (codes "inputs") inputs types (put (codes "types") types (put (codes "places") places ms)) refl (get_member-put (codes "types") types (put (codes "places") places ms))
+
+-- what stays behind them
+behind_inputs : (q : List ℕ) (v inputs types places : Data) (ms : Members) → bytes_eq q (codes "inputs") ≡ false → bytes_eq q (codes "types") ≡ false
+    → get_member q (put (codes "places") places ms) ≡ Some v → get_member q (put (codes "inputs") inputs (put (codes "types") types (put (codes "places") places ms))) ≡ Some v
+behind_inputs q v inputs types places ms one two there =
+    stays q (codes "inputs") inputs v (put (codes "types") types (put (codes "places") places ms)) one (stays q (codes "types") types v (put (codes "places") places ms) two there)
+
+pub places_put : (inputs types places : Data) (ms : Members) → get_member (codes "places") (put (codes "inputs") inputs (put (codes "types") types (put (codes "places") places ms))) ≡ Some places
+places_put inputs types places ms = behind_inputs (codes "places") places inputs types places ms refl refl (get_member-put (codes "places") places ms)
+
+pub side_notes_put : (inputs types places side notes : Data) (ms : Members)
+    → get_member (codes "side_notes") (put (codes "inputs") inputs (put (codes "types") types (put (codes "places") places (put (codes "side_notes") side (put (codes "notes") notes ms))))) ≡ Some side
+side_notes_put inputs types places side notes ms =
+    behind_inputs (codes "side_notes") side inputs types places (put (codes "side_notes") side (put (codes "notes") notes ms)) refl refl
+    (stays (codes "side_notes") (codes "places") places side (put (codes "side_notes") side (put (codes "notes") notes ms)) refl
+    (get_member-put (codes "side_notes") side (put (codes "notes") notes ms)))
+
+pub notes_put : (inputs types places side notes : Data) (ms : Members)
+    → get_member (codes "notes") (put (codes "inputs") inputs (put (codes "types") types (put (codes "places") places (put (codes "side_notes") side (put (codes "notes") notes ms))))) ≡ Some notes
+notes_put inputs types places side notes ms =
+    behind_inputs (codes "notes") notes inputs types places (put (codes "side_notes") side (put (codes "notes") notes ms)) refl refl
+    (stays (codes "notes") (codes "places") places notes (put (codes "side_notes") side (put (codes "notes") notes ms)) refl
+    (stays (codes "notes") (codes "side_notes") side notes (put (codes "notes") notes ms) refl (get_member-put (codes "notes") notes ms)))

@@ -1,1 +1,3 @@
 pub mod HeadLemmas
+mod InputLemmas
+mod OtherMembers

@@ -1,6 +1,8 @@
 // How a run ended.
-ghost use Rattle.std.specs.Prelude.{◌≤◌, length};
+ghost use Rattle.std.specs.Prelude.{◌≡◌, ◌≤◌, [], length, map};
 ghost use Rattle.abi_base.specs.Limits.{input_limit};
+ghost use Rattle.commands.specs.Commands.{plain_file};
+ghost use Rattle.explain.specs.Notes.{IsUnnamed};
 
 use crate::files::bytes_of;
 use commands::{File, Input, Outcome};
@@ -33,7 +35,8 @@ pub struct Ending<'e> {
 
 /// The bytes of an input; none if it was not read under a name, or cannot be read again.
 pub fn input_bytes<R: Files + AllocGlobal>(rt: &R, ending: &Ending<'_>, which: Input) -> Vec<u8>
-    ensures { length result.items ≤ input_limit }
+    ensures within { length result.items ≤ input_limit }
+    ensures unnamed { IsUnnamed (map plain_file ending.now.files.now) which → result.items ≡ [] }
 {
     let Some(path) = name_of(ending.files, which) else {
         return Vec::new(rt.alloc());

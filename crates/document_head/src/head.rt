@@ -1,8 +1,11 @@
 // The head of the document of a run: all members except the breaks.
-ghost use Rattle.std.specs.Prelude.{◌≡◌, codes, map, IfOk, OnOk};
+ghost use Rattle.std.specs.Prelude.{◌≡◌, ◌++◌, [], ◌∷◌, codes, map, option_map, IfOk, OnOk, string_bytes};
+ghost use Rattle.commands.specs.Commands.{plain_file};
 ghost use Rattle.commands.specs.Outcomes.{exit_number};
 ghost use Rattle.document_head.specs.Heads.{answer_word, command_word, fault_value, untyped_value, with_all, with_outcome, with_remarks, HasMember, HasText, IsTextMember};
-ghost use Rattle.serde_json.specs.Data.{number, object, string, unsigned};
+ghost use Rattle.document_head.specs.Inputs.{AddsInputs, AreInputs, HasFacts, HasInputs, IsInput, facts_value};
+ghost use Rattle.document_head.specs.Notes.{AddsNotes, AreSentences, HasSentences, IsSentences, noted, texts_array};
+ghost use Rattle.serde_json.specs.Data.{Data, number, object, put, string, unsigned};
 ghost use Rattle.serde_json.specs.View.{members_view, view};
 
 use crate::ending::{Ending, input_bytes};
@@ -27,11 +30,25 @@ fn faulty_bytes<R: Files + AllocGlobal>(rt: &R, ending: &Ending<'_>) -> Vec<u8> 
     }
 }
 
+// Appends a sentence, if there is one.
+fn push_other(sentences: &mut Vec<String>, other: Option<String>) -> Result<(), AllocError>
+    ensures { OnOk result (map string_bytes sentences.new.items
+        ≡ map string_bytes sentences.old.items ++ noted (option_map string_bytes other)) }
+{
+    match other {
+        Some(sentence) => Ok(sentences.push(sentence)?),
+        None => Ok(()),
+    }
+}
+
 // The sentences beside the answer.
 fn sentences_of<R: Files + AllocGlobal>(
     rt: &R,
     ending: &Ending<'_>,
-) -> Result<Vec<String>, NoMemory> {
+) -> Result<Vec<String>, NoMemory>
+    ensures { IfOk result (λ sentences. AreSentences ending.now.outcome (map plain_file ending.now.files.now)
+        ending.now.text.now (map string_bytes sentences.items)) }
+{
     let Ending {
         outcome,
         files,
@@ -40,14 +57,15 @@ fn sentences_of<R: Files + AllocGlobal>(
     } = *ending;
     let bytes = faulty_bytes(rt, ending);
     let mut sentences = notes_on(rt.alloc(), outcome, files, &bytes, "reading failed")?;
-    if let Some(sentence) = other_input_sentence(rt.alloc(), files, text)? {
-        sentences.push(sentence)?;
-    }
+    let other = other_input_sentence(rt.alloc(), files, text)?;
+    push_other(&mut sentences, other)?;
     Ok(sentences)
 }
 
 // Texts, as an array.
-fn texts_value(alloc: Global, texts: &[String]) -> Result<Value, AllocError> {
+fn texts_value(alloc: Global, texts: &[String]) -> Result<Value, AllocError>
+    ensures { IfOk result (λ value. view value ≡ texts_array (map string_bytes texts.now)) }
+{
     let mut list = Vec::new(alloc);
     for text in texts {
         list.push(Value::try_from_str(alloc, text.as_str())?)?;
@@ -56,7 +74,10 @@ fn texts_value(alloc: Global, texts: &[String]) -> Result<Value, AllocError> {
 }
 
 // The sentences beside the answer, as an array.
-fn sentences_value<R: Files + AllocGlobal>(rt: &R, ending: &Ending<'_>) -> Result<Value, NoMemory> {
+fn sentences_value<R: Files + AllocGlobal>(rt: &R, ending: &Ending<'_>) -> Result<Value, NoMemory>
+    ensures { IfOk result (λ value. IsSentences ending.now.outcome (map plain_file ending.now.files.now)
+        ending.now.text.now (view value)) }
+{
     let sentences = sentences_of(rt, ending)?;
     Ok(texts_value(rt.alloc(), &sentences)?)
 }
@@ -106,7 +127,10 @@ fn push_input<R: Files + AllocGlobal>(
     file: File<'_>,
     breaks: &[Value],
     with_digests: bool,
-) -> Result<(), NoMemory> {
+) -> Result<(), NoMemory>
+    ensures { IfOk result (λ _. (value : Data) × IsInput with_digests (plain_file file.entry) value
+        × (map view members.new.inputs.items ≡ map view members.old.inputs.items ++ value ∷ [])) }
+{
     let InputFacts { input, types } = input_facts(rt, file, breaks, with_digests)?;
     members.inputs.push(input)?;
     put_library(rt.alloc(), &mut members.types, file.which, types)?;
@@ -118,7 +142,10 @@ fn input_members<R: Files + AllocGlobal>(
     rt: &R,
     ending: &Ending<'_>,
     breaks: &[u8],
-) -> Result<InputMembers, NoMemory> {
+) -> Result<InputMembers, NoMemory>
+    ensures { IfOk result (λ members. AreInputs ending.now.wanted.digests (map plain_file ending.now.files.now)
+        (map view members.inputs.items)) }
+{
     let alloc = rt.alloc();
     let breaks = breaks_in(alloc, breaks);
     let mut members = InputMembers {
@@ -135,7 +162,9 @@ fn input_members<R: Files + AllocGlobal>(
 }
 
 // A map, if the answer is a report; else null.
-fn of_report(outcome: Outcome, map: Map<String, Value>) -> Value {
+fn of_report(outcome: Outcome, map: Map<String, Value>) -> Value
+    ensures { view result ≡ facts_value outcome (members_view map.entries) }
+{
     if is_report(outcome) {
         Value::Object(map)
     } else {
@@ -201,7 +230,11 @@ fn put_notes<R: Files + AllocGlobal>(
     head: &mut Map<String, Value>,
     ending: &Ending<'_>,
     side_notes: Value,
-) -> Result<(), NoMemory> {
+) -> Result<(), NoMemory>
+    ensures { let files = map plain_file ending.now.files.now in
+        OnOk result (AddsNotes ending.now.outcome files ending.now.text.now (view side_notes)
+        (members_view head.old.entries) (members_view head.new.entries)) }
+{
     put(head, rt.alloc(), "notes", sentences_value(rt, ending)?)?;
     put(head, rt.alloc(), "side_notes", side_notes)?;
     Ok(())
@@ -213,7 +246,12 @@ fn put_types(
     head: &mut Map<String, Value>,
     outcome: Outcome,
     types: TypeMembers,
-) -> Result<(), AllocError> {
+) -> Result<(), AllocError>
+    ensures { OnOk result (members_view head.new.entries
+        ≡ put (codes "types") (facts_value outcome (members_view types.names.entries))
+        (put (codes "places") (facts_value outcome (members_view types.places.entries))
+        (members_view head.old.entries))) }
+{
     let TypeMembers { places, names } = types;
     put(head, alloc, "places", of_report(outcome, places))?;
     put(head, alloc, "types", of_report(outcome, names))
@@ -225,7 +263,11 @@ fn put_inputs<R: Files + AllocGlobal>(
     head: &mut Map<String, Value>,
     ending: &Ending<'_>,
     breaks: &[u8],
-) -> Result<(), NoMemory> {
+) -> Result<(), NoMemory>
+    ensures { let files = map plain_file ending.now.files.now in
+        OnOk result (AddsInputs ending.now.outcome ending.now.wanted.digests files
+        (members_view head.old.entries) (members_view head.new.entries)) }
+{
     let InputMembers { inputs, types } = input_members(rt, ending, breaks)?;
     put_types(rt.alloc(), head, ending.outcome, types)?;
     put(head, rt.alloc(), "inputs", Value::Array(inputs))?;
@@ -252,7 +294,8 @@ fn with_ending(
 
 /// All members except the breaks, given the array of the breaks as a text, and the notes on differences that no rule judges: the
 /// format of the document, the first argument, the answer in a word, the exit number, the fault of an input, the numbers of exports
-/// without a type, and the text that `abi` prints. No clause says what the notes and the members about the inputs are.
+/// without a type, the text that `abi` prints, the sentences beside the answer, and an object for each input. The inputs are read
+/// again for it, and no clause says that they give the bytes that the answer is about, or what the facts about types are.
 pub fn head_of<R: Files + AllocGlobal>(
     rt: &R,
     ending: &Ending<'_>,
@@ -271,6 +314,13 @@ pub fn head_of<R: Files + AllocGlobal>(
     ensures untyped { let untyped = untyped_value ending.now.outcome in
         IfOk result (λ head. HasMember (codes "untyped") untyped (view head)) }
     ensures text { IfOk result (λ head. HasText ending.now.outcome ending.now.text.now (view head)) }
+    ensures notes { let files = map plain_file ending.now.files.now in
+        IfOk result (λ head. HasSentences ending.now.outcome files ending.now.text.now (view head)) }
+    ensures side_notes { IfOk result (λ head. HasMember (codes "side_notes") (view side_notes) (view head)) }
+    ensures inputs { let files = map plain_file ending.now.files.now in
+        IfOk result (λ head. HasInputs ending.now.wanted.digests files (view head)) }
+    ensures places { IfOk result (λ head. HasFacts (codes "places") ending.now.outcome (view head)) }
+    ensures types { IfOk result (λ head. HasFacts (codes "types") ending.now.outcome (view head)) }
 {
     let alloc = rt.alloc();
     let mut others = Map::new(alloc);

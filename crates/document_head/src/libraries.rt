@@ -1,8 +1,15 @@
 // The facts about inputs in a document.
-ghost use Rattle.std.specs.Prelude.{◌≤◌, length, IfOk};
+ghost use Rattle.std.specs.Prelude.{◌≡◌, ◌≤◌, codes, length, IfOk};
+ghost use Rattle.std.specs.Option.{option_copied};
+ghost use Rattle.sha2.specs.Sha256.{sha256};
 ghost use Rattle.abi_base.specs.Limits.{input_limit};
+ghost use Rattle.commands.specs.Commands.{plain_file};
+ghost use Rattle.commands.specs.Inputs.{input_word};
 ghost use Rattle.document_head.specs.Heads.{IsTextOf};
-ghost use Rattle.serde_json.specs.View.{view};
+ghost use Rattle.document_head.specs.Inputs.{IsInput, IsNameOf, IsOfBytes, IsSoname, input_object};
+ghost use Rattle.document_head.specs.Inputs as spec;
+ghost use Rattle.serde_json.specs.Data.{member, no_members, null, string};
+ghost use Rattle.serde_json.specs.View.{members_view, view};
 
 use crate::files::bytes_of;
 use crate::places::{TypeFacts, type_facts};
@@ -35,33 +42,57 @@ pub(crate) fn text_value(alloc: Global, bytes: &[u8]) -> Result<Value, AllocErro
     }
 }
 
+// The soname in a file with these bytes, if neither its header, its sections nor its dynamic table have a fault.
+#[tactic(auto, unfolding(crate::specs::Inputs::soname_in))]
+fn soname_in(bytes: &[u8]) -> Option<&[u8]>
+    requires { length bytes.now ≤ input_limit }
+    ensures { option_copied result ≡ spec.soname_in bytes.now }
+{
+    let Ok(file) = read_elf(bytes) else {
+        return None;
+    };
+    match soname(&file) {
+        Ok(name) => name,
+        Err(_) => None,
+    }
+}
+
 // The soname of a library, or null.
 fn soname_of_library(alloc: Global, bytes: &[u8]) -> Result<Value, AllocError>
     requires { length bytes.now ≤ input_limit }
+    ensures { IfOk result (λ value. IsNameOf (spec.soname_in bytes.now) (view value)) }
 {
-    let Ok(file) = read_elf(bytes) else {
-        return Ok(Value::Null);
-    };
-    match soname(&file) {
-        Ok(Some(name)) => text_value(alloc, name),
-        _ => Ok(Value::Null),
+    match soname_in(bytes) {
+        Some(name) => text_value(alloc, name),
+        None => Ok(Value::Null),
     }
 }
 
 // Whether an input is a library.
-fn is_library(which: Input) -> bool {
+fn is_library(which: Input) -> bool
+    ensures { result ≡ spec.is_library which }
+{
     match which {
         Input::Rules | Input::Certificate | Input::Certificate1 | Input::Certificate2 => false,
         _ => true,
     }
 }
 
+// The SHA-256 of bytes.
+fn digest_of(bytes: &[u8]) -> [u8; 32]
+    ensures { result ≡ sha256 bytes.now }
+{
+    Sha256::digest(bytes)
+}
+
 // The SHA-256 of bytes, or null if it is not wanted.
-fn digest_value(alloc: Global, bytes: &[u8], is_wanted: bool) -> Result<Value, AllocError> {
+fn digest_value(alloc: Global, bytes: &[u8], is_wanted: bool) -> Result<Value, AllocError>
+    ensures { IfOk result (λ value. view value ≡ spec.digest_value is_wanted bytes.now) }
+{
     if !is_wanted {
         return Ok(Value::Null);
     }
-    let digest = Sha256::digest(bytes);
+    let digest = digest_of(bytes);
     let digits = hex::encode(alloc, digest.as_slice())?;
     Value::try_from_str(alloc, digits.as_str())
 }
@@ -69,6 +100,7 @@ fn digest_value(alloc: Global, bytes: &[u8], is_wanted: bool) -> Result<Value, A
 // The soname of an input, or null if it is no library or has none.
 fn soname_value(alloc: Global, which: Input, bytes: &[u8]) -> Result<Value, AllocError>
     requires { length bytes.now ≤ input_limit }
+    ensures { IfOk result (λ value. IsSoname which bytes.now (view value)) }
 {
     if is_library(which) {
         soname_of_library(alloc, bytes)
@@ -78,7 +110,11 @@ fn soname_value(alloc: Global, which: Input, bytes: &[u8]) -> Result<Value, Allo
 }
 
 // The role and the name of an input.
-fn named(alloc: Global, file: File<'_>) -> Result<Map<String, Value>, AllocError> {
+fn named(alloc: Global, file: File<'_>) -> Result<Map<String, Value>, AllocError>
+    ensures { IfOk result (λ input. members_view input.entries
+        ≡ member (codes "input") (string (input_word file.entry.which))
+        (member (codes "name") (string file.entry.name.now) no_members)) }
+{
     let mut input = Map::new(alloc);
     let role = Value::try_from_str(alloc, file.which.word())?;
     put(&mut input, alloc, "input", role)?;
@@ -95,6 +131,7 @@ fn input_value(
     with_digests: bool,
 ) -> Result<Value, AllocError>
     requires { length bytes.now ≤ input_limit }
+    ensures { IfOk result (λ value. IsOfBytes with_digests (plain_file file.entry) (view value)) }
 {
     let mut input = named(alloc, file)?;
     let digest = digest_value(alloc, bytes, with_digests)?;
@@ -105,7 +142,9 @@ fn input_value(
 }
 
 // The object of an input that could not be read again.
-fn unread_value(alloc: Global, file: File<'_>) -> Result<Value, AllocError> {
+fn unread_value(alloc: Global, file: File<'_>) -> Result<Value, AllocError>
+    ensures { IfOk result (λ value. view value ≡ input_object (plain_file file.entry) null null) }
+{
     let mut input = named(alloc, file)?;
     put(&mut input, alloc, "sha256", Value::Null)?;
     put(&mut input, alloc, "soname", Value::Null)?;
@@ -122,7 +161,9 @@ fn entry_word(which: Input) -> Option<&'static str> {
 }
 
 // The facts about an input that could not be read again.
-fn unread_facts(alloc: Global, file: File<'_>) -> Result<InputFacts, NoMemory> {
+fn unread_facts(alloc: Global, file: File<'_>) -> Result<InputFacts, NoMemory>
+    ensures { IfOk result (λ facts. view facts.input ≡ input_object (plain_file file.entry) null null) }
+{
     Ok(InputFacts {
         input: unread_value(alloc, file)?,
         types: TypeFacts::none(alloc),
@@ -153,6 +194,7 @@ fn facts_in(
     with_digests: bool,
 ) -> Result<InputFacts, NoMemory>
     requires { length bytes.now ≤ input_limit }
+    ensures { IfOk result (λ facts. IsOfBytes with_digests (plain_file file.entry) (view facts.input)) }
 {
     let types = types_in(alloc, file.which, bytes, breaks)?;
     let input = input_value(alloc, file, bytes, with_digests)?;
@@ -165,7 +207,9 @@ pub(crate) fn input_facts<R: Files + AllocGlobal>(
     file: File<'_>,
     breaks: &[Value],
     with_digests: bool,
-) -> Result<InputFacts, NoMemory> {
+) -> Result<InputFacts, NoMemory>
+    ensures { IfOk result (λ facts. IsInput with_digests (plain_file file.entry) (view facts.input)) }
+{
     match bytes_of(rt, file.name) {
         Some(bytes) => facts_in(rt.alloc(), file, &bytes, breaks, with_digests),
         None => unread_facts(rt.alloc(), file),

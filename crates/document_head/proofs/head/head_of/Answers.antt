@@ -1,6 +1,7 @@
 use Rattle.std.proofs.Common.{◌∙◌, ap, map}
 use Rattle.std.specs.Prelude.{codes}
 use Rattle.document_head.specs.Heads.{command_word}
+use Rattle.document_head.proofs.OtherMembers.{inputs_member, notes_member, places_member, side_notes_member, types_member}
 use Rattle.document_head.proofs.HeadLemmas.{answer_member, command_member, fault_member, format_member, status_member, text_member, untyped_member}
 use Rattle.serde_json.specs.Find.{get}
 use Rattle.serde_json.specs.View.{members_view, view}
@@ -39,3 +40,28 @@ returns-clause-untyped g c =
 pub returns-clause-text : goal.returns-clause-text
 returns-clause-text g c =
     (view c.in_ok-text.text, c.in_ok-text.ensures, ap (get (codes "text")) c.in_ok-with_ending.ensures ∙ text_member (command_word (map (λ word. word.now) c.args.ending.now.words.now)) c.args.ending.now.outcome (view c.in_ok-text.text) (members_view c.put_inputs.new.head.entries))
+
+pub returns-clause-notes : goal.returns-clause-notes
+returns-clause-notes g c =
+    let there = notes_member (command_word (map (λ word. word.now) c.args.ending.now.words.now)) c.args.ending.now.outcome c.args.ending.now.wanted.digests _ _ (view c.in_ok-text.text) _ _ _ _ c.in_ok-put_notes.ensures c.in_ok-put_inputs.ensures in
+    (there.0, there.1, ap (get (codes "notes")) c.in_ok-with_ending.ensures ∙ there.2)
+
+pub returns-clause-side_notes : goal.returns-clause-side_notes
+returns-clause-side_notes g c =
+    ap (get (codes "side_notes")) c.in_ok-with_ending.ensures
+    ∙ side_notes_member (command_word (map (λ word. word.now) c.args.ending.now.words.now)) c.args.ending.now.outcome c.args.ending.now.wanted.digests _ _ (view c.in_ok-text.text) _ _ _ _ c.in_ok-put_notes.ensures c.in_ok-put_inputs.ensures
+
+pub returns-clause-inputs : goal.returns-clause-inputs
+returns-clause-inputs g c =
+    let there = inputs_member (command_word (map (λ word. word.now) c.args.ending.now.words.now)) c.args.ending.now.outcome c.args.ending.now.wanted.digests _ (view c.in_ok-text.text) _ _ c.in_ok-put_inputs.ensures in
+    (there.0, there.1, ap (get (codes "inputs")) c.in_ok-with_ending.ensures ∙ there.2)
+
+pub returns-clause-places : goal.returns-clause-places
+returns-clause-places g c =
+    let there = places_member (command_word (map (λ word. word.now) c.args.ending.now.words.now)) c.args.ending.now.outcome c.args.ending.now.wanted.digests _ (view c.in_ok-text.text) _ _ c.in_ok-put_inputs.ensures in
+    (there.0, ap (get (codes "places")) c.in_ok-with_ending.ensures ∙ there.1)
+
+pub returns-clause-types : goal.returns-clause-types
+returns-clause-types g c =
+    let there = types_member (command_word (map (λ word. word.now) c.args.ending.now.words.now)) c.args.ending.now.outcome c.args.ending.now.wanted.digests _ (view c.in_ok-text.text) _ _ c.in_ok-put_inputs.ensures in
+    (there.0, ap (get (codes "types")) c.in_ok-with_ending.ensures ∙ there.1)
