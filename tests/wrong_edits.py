@@ -179,11 +179,12 @@ def batches_of(crate: Path, edits: list[Edit]) -> list[dict[Edit, frozenset[Func
 
 
 def refused_in(crate: str, batch: dict[Edit, frozenset[Function]], said: str) -> set[str]:
-    """The names of the edits of a batch that a check of the crate refuses: it proves none of their functions. None, if it comes to no
-    end, or if a function that no edit changes is not proved."""
-    verdicts = re.findall(rf"^fn {crate}::(\S+): (\w+)", said, re.MULTILINE)
+    """The names of the edits of a batch that a check of the crate refuses: it proves none of their functions, and not only because
+    they call one that is not proved. None, if it comes to no end, or if a function that no edit changes is not proved by itself."""
+    verdicts = re.findall(rf"^fn {crate}::(\S+): (.*)", said, re.MULTILINE)
+    by_itself = [path for path, verdict in verdicts if verdict != "proved" and "it calls `" not in verdict]
     # A closure stands as `MODULE::fn::FUNCTION::..`.
-    unproved = {path.replace("::fn::", "::").removeprefix("fn::") + "::" for path, verdict in verdicts if verdict != "proved"}
+    unproved = {path.replace("::fn::", "::").removeprefix("fn::") + "::" for path in by_itself}
     changed = {it.path for bodies in batch.values() for it in bodies}
     refused = {it for it in changed if any(path.startswith(f"{it}::") for path in unproved)}
     known = all(any(path.startswith(f"{it}::") for it in changed) for path in unproved)
@@ -219,13 +220,17 @@ def tried_together(folder: Path, edits: list[Edit]) -> set[str]:
     crate = edits[0].crate
     refused: set[str] = set()
     for batch in batches_of(folder / "crates" / crate, edits):
-        made = changed_texts(folder / "crates" / crate, [change for edit in batch for change in changes_of(edit)])
-        if isinstance(made, str):
-            continue
-        said = checked(folder, crate, made, [it for bodies in batch.values() for it in bodies])
-        names = refused_in(crate, batch, said)
-        print(f"{crate}: {len(names)} of {len(batch)} edits were refused in one check", flush=True)
-        refused |= names
+        names = {""}
+        # What is refused is left out of the next check, since nothing is known of a function that calls one that is not proved.
+        while batch and names:
+            made = changed_texts(folder / "crates" / crate, [change for edit in batch for change in changes_of(edit)])
+            if isinstance(made, str):
+                break
+            said = checked(folder, crate, made, [it for bodies in batch.values() for it in bodies])
+            names = refused_in(crate, batch, said)
+            print(f"{crate}: {len(names)} of {len(batch)} edits were refused in one check", flush=True)
+            refused |= names
+            batch = {edit: bodies for edit, bodies in batch.items() if edit.name not in names}
     return refused
 
 

@@ -86,6 +86,12 @@ def test_only_edits_of_bodies_with_a_contract_share_a_check(crate: Path, edits: 
     [
         ("fn crate::a::next: no proof: expected answers\nfn crate::a::Table::is_empty: not proved\n", {"crate/one_too_many", "crate/never_empty"}),
         ("fn crate::a::next: not proved\nfn crate::a::Table::is_empty: proved\nfn crate::b::next: proved\n", {"crate/one_too_many"}),
+        # A function that calls one that is not proved is not proved for that reason, or also for its own.
+        (
+            "fn crate::a::next: not proved\nfn crate::a::Table::is_empty: not proved; it calls `crate::a::next`, which is not proved\n"
+            "fn crate::b::next: no proof: it calls `crate::a::next`, which is not proved\n",
+            {"crate/one_too_many"},
+        ),
         # A closure of a function is not proved.
         ("fn crate::a::fn::next::map: not proved\nfn crate::a::next: proved\n", {"crate/one_too_many"}),
         # Something else is not proved, so the check says nothing of the edits.
