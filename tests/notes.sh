@@ -277,10 +277,14 @@ counts() {
     echo 'int f(void) { return 1; } int g(void) { return 2; } int h(void) { return 3; }' | gcc -g -fPIC -shared -o old.so -x c -
     echo 'int f(void) { return 1; } int g(void) { return 2; }' | gcc -g -fPIC -shared -o new.so -x c -
     echo "$2" >some.rules
-    ABI_NOTES=1 "$program" check --rules some.rules old.so new.so >answer 2>errors || true
-    sed -n 's/^abi: note: exports of OLD: //p' errors >got
     echo "$3" >want
-    same "$1"
+    # The option may stand before the command and behind it.
+    for words in "check --rules some.rules" "--rules some.rules check" "--rules=some.rules -- check"; do
+        # Unquoted on purpose: each word is an argument.
+        ABI_NOTES=1 "$program" $words old.so new.so >answer 2>errors || true
+        sed -n 's/^abi: note: exports of OLD: //p' errors >got
+        same "$1, $words"
+    done
     passed "$1"
 }
 

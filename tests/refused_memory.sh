@@ -1,10 +1,10 @@
 #!/usr/bin/env bash
-# Refuses the program's requests for memory one at a time, with a preloaded function that replaces the C library's. Each time the program
-# must give the same answer as with all its memory, or end with status 4 and print nothing. For commands with many requests it tries
-# some of them, spread evenly.
+# Refuses the requests for memory of abi and of abi-json one at a time, with a preloaded function that replaces the C library's. Each time
+# the program must give the same answer as with all its memory, or end with status 4 and print nothing. For commands with many requests it
+# tries some of them, spread evenly.
 #
 #   tests/refused_memory.sh [MOST]             tries at most MOST requests of each command (60 by default)
-#   ABI=/path/of/abi tests/refused_memory.sh   uses another program
+#   ABI=/path/of/abi ABI_JSON=/path/of/abi_json tests/refused_memory.sh   uses other programs
 set -eu
 title="refused memory"
 tools="gcc awk sed"
@@ -13,6 +13,8 @@ crate=abi_cli
 most=${1:-60}
 
 gcc -shared -fPIC -O1 -o faulty.so "$sources/faulty.c"
+
+tool=abi
 
 # refused NAME STATUS ARGUMENT..: runs the command again and again, each time with another request refused.
 refused() {
@@ -30,7 +32,7 @@ refused() {
         tried=$((tried + 1))
         if [ "$ended" -eq 4 ] && [ ! -s got ]; then
             out=$((out + 1))
-            [ ! -s errors ] || [ "$(cat errors)" = "abi: out of memory" ] ||
+            [ ! -s errors ] || [ "$(cat errors)" = "$tool: out of memory" ] ||
                 fail "$name: without request $call it says: $(cat errors)"
         elif [ "$ended" -ne "$status" ] || ! cmp -s want got; then
             fail "$name: without request $call status $ended: $(head -c 100 got)"
@@ -72,5 +74,16 @@ refused "help" 0 --help
 refused "the version" 0 --version
 system=/lib/x86_64-linux-gnu/libz.so.1
 if [ -e "$system" ]; then refused "a library of the system" 0 check "$system" "$system"; fi
+
+# The documents, with the notes in them.
+program_of abi_json 64 "${ABI_JSON:-}"
+program=$found tool=abi-json
+export ABI_NOTES=1
+refused "the document of a yes" 0 check old.so old.so
+refused "the document of a no" 1 check old.so new.so
+refused "the document of a no with a rule file" 0 --rules rules check old.so new.so
+refused "the document of an unreadable library" 2 exports cut.so
+refused "the notes" 0 notes old.so new.so
+refused "the notes on an unreadable library" 2 notes old.so cut.so
 
 finished

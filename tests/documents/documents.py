@@ -10,7 +10,7 @@ import os
 import subprocess
 import sys
 from pathlib import Path
-from typing import Any
+from typing import Any, Iterator
 
 import jsonschema
 
@@ -110,7 +110,37 @@ def hold_notes(documents: Documents, old: Path, new: Path) -> None:
     assert [{**one, "sha256": None} for one in noted["inputs"]] == plain["inputs"] and noted["breaks"] == plain["breaks"], plain
     assert documents.of("notes", old, old.with_name("missing"))["answer"] == "read fault"
     assert documents.of("notes", old)["answer"] == "usage"
-    assert documents.of("notes", old, __file__)["side_notes"] == []
+    damaged = documents.of("notes", old, __file__)
+    assert damaged["answer"] == "unreadable" and damaged["fault"]["input"] == "new" and damaged["side_notes"] is None, damaged
+    same = documents.of("notes", old, old)
+    assert same["answer"] == "done" and same["side_notes"] == [] and same["missing_side_notes"] is None, same
+
+
+def orders(command: str, files: list[str], rules: str) -> Iterator[list[str]]:
+    """The same request in all orders of its words: the option anywhere, and `--` before the command or before a file."""
+    words = [command, *files]
+    for option in (["--rules", rules], [f"--rules={rules}"]):
+        for at in range(len(words) + 1):
+            yield words[:at] + option + words[at:]
+        for at in range(len(words)):
+            yield option + words[:at] + ["--"] + words[at:]
+
+
+def hold_orders(documents: Documents, old: Path, new: Path, rules: Path) -> int:
+    """Checks that each order of the words gives the same document, which names the command. Returns the number of documents."""
+    rules.write_text("[suppress_function]\nname = use_plain\n")
+    held = 0
+    for command in ("check", "app", "notes"):
+        files = [str(old), str(new)] if command != "app" else [str(old), str(old), str(new)]
+        wanted = documents.of(command, "--rules", rules, *files, ABI_NOTES="1")
+        assert wanted["command"] == command, wanted
+        for words in orders(command, files, str(rules)):
+            document = documents.of(*words, ABI_NOTES="1")
+            assert document == wanted, (words, document)
+            held += 1
+    assert documents.of("--report", "text", "check", old, new)["answer"] == "usage"
+    assert documents.of("--rules", "notes", "check", old, new)["answer"] == "read fault"
+    return held
 
 
 # Each structure has an `int`, and a member that is an `int` in the old library and a `long` in the new one (System V psABI, figure
@@ -151,10 +181,11 @@ def main() -> None:
                 assert documents.of("check", old, old)["answer"] == "yes"
                 assert documents.of("exports", old)["answer"] == "done"
     hold_notes(documents, old, new)
+    held += hold_orders(documents, old, new, work / "rules")
     assert documents.of("check", old, work / "missing")["answer"] == "read fault"
     assert documents.of("check", old, __file__)["answer"] == "unreadable"
     assert documents.of("check")["answer"] == "usage"
-    print(f"{held} places")
+    print(f"{held} places and orders of words")
 
 
 main()

@@ -65,7 +65,8 @@ def faults() -> list[Named]:
                             ("cert_check/specs/Refusals.antt", "refused", "cert_check/src/refused.rt")):
         names, when = texts(path, f"{of}_name"), documented(enums)
         found += [Named(names[name], number, when[name]) for name, number in texts(path, f"{of}_number").items()]
-    found.append(Named("NoTag", "85", documented("library_layout/src/layouts.rt")["NoTag"]))
+    (no_tag,) = re.findall(r"^-- (.*)\nabbrev pub HasNoTag ", read("library_layout/specs/Layouts.antt"), re.MULTILINE)
+    found.append(Named("NoTag", "85", no_tag.capitalize()))
     return sorted(found, key=lambda fault: int(fault.word))
 
 

@@ -1,10 +1,11 @@
 // The notes on differences that no rule judges, printed on standard error beside the answer of `check`.
-ghost use Rattle.std.specs.Prelude.{◌≤◌, length};
+ghost use Rattle.std.specs.Prelude.{◌≤◌, length, IfOk};
 ghost use Rattle.abi_base.specs.Limits.{input_limit};
 
 use crate::notes::bytes_of;
 use abi_base::{NoMemory, Remark, SizedExports};
 use abi_top::{Ended, Input, Outcome};
+use cli_args::{ParsedArguments, Request, parse_arguments};
 use explain::name_of;
 use side_notes::{Beside, Counts, all_beside, note_text};
 use std::alloc::{AllocError, Global};
@@ -23,20 +24,24 @@ pub(crate) fn are_wanted<R: Env + AllocGlobal>(rt: &R, is_terminal: bool) -> boo
 }
 
 // The bytes of an input, or none if it was not read under a name.
-fn input_bytes<R: Files + AllocGlobal>(rt: &R, ended: &Ended<'_>, which: Input) -> Vec<u8>
-    ensures { length result.items ≤ input_limit }
+fn input_bytes<R: Files + AllocGlobal>(
+    rt: &R,
+    ended: &Ended<'_>,
+    which: Input,
+) -> Result<Vec<u8>, NoMemory>
+    ensures { IfOk result (λ bytes. length bytes.items ≤ input_limit) }
 {
     match name_of(&ended.files, which) {
         Some(path) => bytes_of(rt, path),
-        None => Vec::new(rt.alloc()),
+        None => Ok(Vec::new(rt.alloc())),
     }
 }
 
 // The notes beside a verdict, from the inputs that were read.
 fn beside_of_inputs<R: Files + AllocGlobal>(rt: &R, ended: &Ended<'_>) -> Result<Beside, NoMemory> {
-    let old = input_bytes(rt, ended, Input::Old);
-    let new = input_bytes(rt, ended, Input::New);
-    let rules = input_bytes(rt, ended, Input::Rules);
+    let old = input_bytes(rt, ended, Input::Old)?;
+    let new = input_bytes(rt, ended, Input::New)?;
+    let rules = input_bytes(rt, ended, Input::Rules)?;
     all_beside(rt.alloc(), &old, &new, &rules)
 }
 
@@ -100,13 +105,14 @@ pub(crate) fn text_beside<R: Files + AllocGlobal>(
     words: &[&str],
     ended: &Ended<'_>,
 ) -> Result<Vec<u8>, NoMemory> {
-    let is_check = words.first().is_some_and(|word| *word == "check");
     let Outcome::Judged(_, remark) = ended.outcome else {
         return Ok(Vec::new(rt.alloc()));
     };
-    if !is_check {
-        return Ok(Vec::new(rt.alloc()));
+    match parse_arguments(rt.alloc(), words)? {
+        ParsedArguments::Request(Request::Check(_)) => {
+            let beside = beside_of_inputs(rt, ended)?;
+            lines_of(rt.alloc(), &beside, remark)
+        }
+        _ => Ok(Vec::new(rt.alloc())),
     }
-    let beside = beside_of_inputs(rt, ended)?;
-    lines_of(rt.alloc(), &beside, remark)
 }

@@ -11,7 +11,7 @@ use crate::notes::notes_of;
 use crate::output::Output;
 use abi_base::{FileInputs, NoMemory};
 use abi_top::{Ended, Outcome, run};
-use explain::encoding_sentence;
+use explain::{encoding_sentence, memory_sentence};
 use report::{CountsListener, FirstListener, Listener, TableListener, TextListener, add_listener};
 use std::io::{ErrorKind, IsTerminal};
 use std::process::ExitCode;
@@ -127,12 +127,18 @@ fn tell<R: Files + Eprint + AllocGlobal>(rt: &R, words: &[&str], ended: &Ended<'
     }
 }
 
-// Prints on standard error the differences that no rule judges. If that fails, the answer does not change.
+// Prints on standard error the differences that no rule judges, or why they are not known. If that fails, the answer does not change.
 fn tell_notes<R: Files + Eprint + AllocGlobal>(rt: &R, words: &[&str], ended: &Ended<'_>) {
-    let Ok(bytes) = text_beside(rt, words, ended) else {
-        return;
-    };
-    if let Ok(text) = str::from_utf8(&bytes) {
-        let _ = eprint!(rt; "{text}");
+    match text_beside(rt, words, ended) {
+        Ok(bytes) => {
+            if let Ok(text) = str::from_utf8(&bytes) {
+                let _ = eprint!(rt; "{text}");
+            }
+        }
+        Err(cause) => {
+            if let Ok(sentence) = memory_sentence(rt.alloc(), cause) {
+                let _ = eprintln!(rt; "abi: there are no notes: {sentence}");
+            }
+        }
     }
 }

@@ -3,50 +3,51 @@
 ghost use Rattle.std.specs.Prelude.{◌≤◌, length, IfOk};
 ghost use Rattle.abi_base.specs.Limits.{input_limit};
 
-use crate::beside::notes_value;
+use crate::beside::{SideNotes, notes_value};
 use crate::document::document_of;
 use crate::told::Told;
 use abi_base::NoMemory;
-use cli_args::commands::CheckWords;
-use cli_args::{ParsedArguments, Request, parse_arguments};
-use commands::{File, Input, Outcome, Verdict};
+use cli_args::{GivenLine, ParsedArguments, line_given, parse_arguments};
+use commands::{File, Input, Outcome, Stop, Verdict, stop_at};
 use document_head::{Ending, Wanted, bytes_of};
-use serde_json::Value;
+use library_check::read_pair;
 use std::alloc::Global;
 use std::rt::Files;
+use suppression_text::read_rules;
 
 // The command for notes only.
 const NOTES: &str = "notes";
 
 const USAGE: &str = "usage: abi-json notes [--rules FILE] OLD NEW\n";
 
-/// Whether the arguments request notes only.
-pub(crate) fn is_for_notes(words: &[&str]) -> bool {
-    words.first().is_some_and(|word| *word == NOTES)
-}
-
-// The arguments of the `check` to which the notes belong.
-fn check_words<'a>(alloc: Global, words: &[&'a str]) -> Result<Vec<&'a str>, NoMemory> {
-    let mut check: Vec<&'a str> = Vec::new(alloc);
-    check.push("check")?;
-    for word in words.iter().skip(1) {
-        check.push(*word)?;
+/// Whether the arguments request notes only: the word `notes` stands where a command does, or first.
+pub(crate) fn are_for_notes(alloc: Global, words: &[&str]) -> Result<bool, NoMemory> {
+    if words.first().is_some_and(|word| *word == NOTES) {
+        return Ok(true);
     }
-    Ok(check)
+    match line_given(alloc, words)? {
+        Some(line) => Ok(line.command == Some(NOTES)),
+        None => Ok(false),
+    }
 }
 
-// The files that a `check` names.
-fn files_of(alloc: Global, asked: CheckWords<'_>) -> Result<Vec<File<'_>>, NoMemory> {
+// Two libraries and a rule file, if one is given.
+fn files_of<'a>(
+    alloc: Global,
+    old: &'a str,
+    new: &'a str,
+    rules: Option<&'a str>,
+) -> Result<Vec<File<'a>>, NoMemory> {
     let mut files = Vec::new(alloc);
     files.push(File {
         which: Input::Old,
-        name: asked.old,
+        name: old,
     })?;
     files.push(File {
         which: Input::New,
-        name: asked.new,
+        name: new,
     })?;
-    if let Some(name) = asked.rules {
+    if let Some(name) = rules {
         files.push(File {
             which: Input::Rules,
             name,
@@ -55,15 +56,22 @@ fn files_of(alloc: Global, asked: CheckWords<'_>) -> Result<Vec<File<'_>>, NoMem
     Ok(files)
 }
 
-// The files that the arguments of a `check` name, or the outcome if these are wrong or request the help.
-fn named_files<'a>(
-    alloc: Global,
-    words: &'a [&'a str],
-) -> Result<Result<Vec<File<'a>>, Outcome>, NoMemory> {
+// The files that a line for notes names, or none if it has another form.
+fn files_in<'a>(alloc: Global, line: &GivenLine<'a>) -> Result<Option<Vec<File<'a>>>, NoMemory> {
+    if line.command != Some(NOTES) || line.report.is_some() {
+        return Ok(None);
+    }
+    match line.files.as_slice() {
+        [old, new] => Ok(Some(files_of(alloc, *old, *new, line.rules)?)),
+        _ => Ok(None),
+    }
+}
+
+// The outcome of arguments that name no files.
+fn outcome_without_files(alloc: Global, words: &[&str]) -> Result<Outcome, NoMemory> {
     match parse_arguments(alloc, words)? {
-        ParsedArguments::Request(Request::Check(asked)) => Ok(Ok(files_of(alloc, asked)?)),
-        ParsedArguments::Help => Ok(Err(Outcome::Help)),
-        _ => Ok(Err(Outcome::Usage)),
+        ParsedArguments::Help => Ok(Outcome::Help),
+        _ => Ok(Outcome::Usage),
     }
 }
 
@@ -72,14 +80,14 @@ fn bytes_in<R: Files + AllocGlobal>(
     rt: &R,
     files: &[File<'_>],
     which: Input,
-) -> Result<Vec<u8>, Outcome>
+) -> Result<Vec<u8>, Stop>
     ensures { IfOk result (λ bytes. length bytes.items ≤ input_limit) }
 {
     for file in files {
         if file.which == which {
-            return match bytes_of(rt, file.name) {
+            return match bytes_of(rt, file.name)? {
                 Some(bytes) => Ok(bytes),
-                None => Err(Outcome::ReadFault(which)),
+                None => Err(Stop::ReadFault(which)),
             };
         }
     }
@@ -94,8 +102,8 @@ struct CheckInputs {
     rules: Vec<u8>,
 }
 
-// Reads the inputs of a `check`, or returns the outcome that one cannot be read.
-fn inputs_in<R: Files + AllocGlobal>(rt: &R, files: &[File<'_>]) -> Result<CheckInputs, Outcome>
+// Reads the inputs of a `check`, or returns why one cannot be read.
+fn inputs_in<R: Files + AllocGlobal>(rt: &R, files: &[File<'_>]) -> Result<CheckInputs, Stop>
     ensures old { IfOk result (λ inputs. length inputs.old.items ≤ input_limit) }
     ensures new { IfOk result (λ inputs. length inputs.new.items ≤ input_limit) }
 {
@@ -105,18 +113,34 @@ fn inputs_in<R: Files + AllocGlobal>(rt: &R, files: &[File<'_>]) -> Result<Check
     Ok(CheckInputs { old, new, rules })
 }
 
-// The notes on files, and the outcome.
-fn notes_on_files<R: Files + AllocGlobal>(
-    rt: &R,
-    files: &[File<'_>],
-) -> Result<(Value, Outcome), NoMemory> {
-    match inputs_in(rt, files) {
-        Ok(CheckInputs { old, new, rules }) => {
-            let notes = notes_value(rt.alloc(), &old, &new, &rules)?;
-            Ok((notes, Outcome::Judged(Verdict::Done, None)))
-        }
-        Err(outcome) => Ok((Value::Null, outcome)),
+// Whether there are no notes. Files with a fault have none, and neither have many good ones.
+fn are_none(notes: &SideNotes) -> bool {
+    match notes.notes.as_array() {
+        Some(list) => list.is_empty(),
+        None => false,
     }
+}
+
+// Reads two libraries and a rule file, or returns why one cannot be read.
+fn read_all(alloc: Global, old: &[u8], new: &[u8], rules: &[u8]) -> Result<(), Stop>
+    requires old_short { length old.now ≤ input_limit }
+    requires new_short { length new.now ≤ input_limit }
+{
+    read_pair(alloc, old, new)?;
+    match read_rules(alloc, rules) {
+        Ok(_) => Ok(()),
+        Err(refusal) => Err(stop_at(Input::Rules, refusal)),
+    }
+}
+
+// The notes on files. Only if there are none, it reads the files for the fault that may be the cause.
+fn notes_on_files<R: Files + AllocGlobal>(rt: &R, files: &[File<'_>]) -> Result<SideNotes, Stop> {
+    let CheckInputs { old, new, rules } = inputs_in(rt, files)?;
+    let notes = notes_value(rt.alloc(), &old, &new, &rules)?;
+    if are_none(&notes) {
+        read_all(rt.alloc(), &old, &new, &rules)?;
+    }
+    Ok(notes)
 }
 
 // The text of a document: the usage, where the arguments are wrong or request the help.
@@ -127,17 +151,18 @@ fn text_of(outcome: Outcome) -> &'static [u8] {
     }
 }
 
-// The document of notes, or of the reason why there are none. It leaves out the files, which are in the document of the answer.
+// The document of notes, or of the reason why there are none, with these files.
 fn told_with<R: Files + AllocGlobal>(
     rt: &R,
     words: &[&str],
-    notes: Value,
+    files: &[File<'_>],
+    notes: SideNotes,
     outcome: Outcome,
 ) -> Result<Told, NoMemory> {
     let ending = Ending {
         words,
         outcome,
-        files: &[],
+        files,
         text: text_of(outcome),
         wanted: Wanted {
             notes: true,
@@ -148,13 +173,35 @@ fn told_with<R: Files + AllocGlobal>(
     Ok(Told { outcome, document })
 }
 
+// The document of the notes on files, or of the reason why they cannot be read. That of notes leaves out the files, which are in the
+// document of the answer.
+fn told_on<R: Files + AllocGlobal>(
+    rt: &R,
+    words: &[&str],
+    files: &[File<'_>],
+) -> Result<Told, NoMemory> {
+    let outcome = match notes_on_files(rt, files) {
+        Ok(notes) => {
+            return told_with(rt, words, &[], notes, Outcome::Judged(Verdict::Done, None));
+        }
+        Err(Stop::NoMemory(cause)) => return Err(cause),
+        Err(Stop::ReadFault(which)) => Outcome::ReadFault(which),
+        Err(Stop::Unreadable(which, fault)) => Outcome::Unreadable(which, fault),
+    };
+    told_with(rt, words, files, SideNotes::none(), outcome)
+}
+
 /// The document of the notes on the libraries that the arguments name.
 pub(crate) fn notes_told<R: Files + AllocGlobal>(rt: &R, words: &[&str]) -> Result<Told, NoMemory> {
-    let check = check_words(rt.alloc(), words)?;
-    let files = match named_files(rt.alloc(), &check)? {
-        Ok(files) => files,
-        Err(outcome) => return told_with(rt, words, Value::Null, outcome),
+    let files = match line_given(rt.alloc(), words)? {
+        Some(line) => files_in(rt.alloc(), &line)?,
+        None => None,
     };
-    let (notes, outcome) = notes_on_files(rt, &files)?;
-    told_with(rt, words, notes, outcome)
+    match files {
+        Some(files) => told_on(rt, words, &files),
+        None => {
+            let outcome = outcome_without_files(rt.alloc(), words)?;
+            told_with(rt, words, &[], SideNotes::none(), outcome)
+        }
+    }
 }

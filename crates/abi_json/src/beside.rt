@@ -3,8 +3,10 @@ ghost use Rattle.std.specs.Prelude.{◌≤◌, length};
 ghost use Rattle.abi_base.specs.Limits.{input_limit};
 
 use abi_base::NoMemory;
+use cli_args::{ParsedArguments, Request, parse_arguments};
 use commands::{Input, Outcome};
 use document_head::{Ending, input_bytes};
+use explain::memory_sentence;
 use serde_json::{Map, Value, put};
 use side_notes::all_notes;
 use std::alloc::{AllocError, Global};
@@ -55,40 +57,72 @@ fn note_values(alloc: Global, notes: &[Note]) -> Result<Vec<Value>, AllocError> 
 }
 
 // Whether two libraries were judged by `check`.
-fn is_judged_check(ending: &Ending<'_>) -> bool {
-    let is_check = ending.words.first().is_some_and(|word| *word == "check");
-    match ending.outcome {
-        Outcome::Judged(_, _) => is_check,
-        _ => false,
+fn is_judged_check(alloc: Global, ending: &Ending<'_>) -> Result<bool, NoMemory> {
+    let Outcome::Judged(_, _) = ending.outcome else {
+        return Ok(false);
+    };
+    match parse_arguments(alloc, ending.words)? {
+        ParsedArguments::Request(Request::Check(_)) => Ok(true),
+        _ => Ok(false),
     }
 }
 
-/// The notes on two libraries, given the bytes of both and of a rule file, as an array. It is null if memory runs out for them.
+/// The notes of a document, and why there are none.
+#[derive(Drop)]
+pub(crate) struct SideNotes {
+    /// The notes as an array, or null.
+    pub notes: Value,
+    /// The sentence on the limit that the notes would pass, or null.
+    pub missing: Value,
+}
+
+impl SideNotes {
+    /// Those of a document that has none.
+    pub(crate) fn none() -> SideNotes {
+        SideNotes {
+            notes: Value::Null,
+            missing: Value::Null,
+        }
+    }
+}
+
+/// The notes on two libraries, given the bytes of both and of a rule file. If they would pass a limit, there are none, and a sentence
+/// names the limit. It fails only if an allocation does.
 pub(crate) fn notes_value(
     alloc: Global,
     old: &[u8],
     new: &[u8],
     rules: &[u8],
-) -> Result<Value, NoMemory>
+) -> Result<SideNotes, NoMemory>
     requires old_short { length old.now ≤ input_limit }
     requires new_short { length new.now ≤ input_limit }
 {
     match all_notes(alloc, old, new, rules) {
-        Ok(notes) => Ok(Value::Array(note_values(alloc, notes.as_slice())?)),
-        Err(_) => Ok(Value::Null),
+        Ok(notes) => Ok(SideNotes {
+            notes: Value::Array(note_values(alloc, notes.as_slice())?),
+            missing: Value::Null,
+        }),
+        Err(NoMemory::Allocation) => Err(NoMemory::Allocation),
+        Err(cause) => {
+            let sentence = memory_sentence(alloc, cause)?;
+            Ok(SideNotes {
+                notes: Value::Null,
+                missing: Value::try_from_str(alloc, sentence.as_str())?,
+            })
+        }
     }
 }
 
-/// The notes on two libraries that `check` judged, as an array. It is null if they are not wanted, or if memory runs out for them.
-pub(crate) fn side_notes_value<R: Files + AllocGlobal>(
+/// The notes on two libraries that `check` judged. There are none if they are not wanted.
+pub(crate) fn side_notes_of<R: Files + AllocGlobal>(
     rt: &R,
     ending: &Ending<'_>,
-) -> Result<Value, NoMemory> {
-    if !ending.wanted.notes || !is_judged_check(ending) {
-        return Ok(Value::Null);
+) -> Result<SideNotes, NoMemory> {
+    if !ending.wanted.notes || !is_judged_check(rt.alloc(), ending)? {
+        return Ok(SideNotes::none());
     }
-    let old = input_bytes(rt, ending, Input::Old);
-    let new = input_bytes(rt, ending, Input::New);
-    let rules = input_bytes(rt, ending, Input::Rules);
+    let old = input_bytes(rt, ending, Input::Old)?;
+    let new = input_bytes(rt, ending, Input::New)?;
+    let rules = input_bytes(rt, ending, Input::Rules)?;
     notes_value(rt.alloc(), &old, &new, &rules)
 }

@@ -3,11 +3,13 @@ ghost use Rattle.std.specs.Prelude.{◌≡◌, drop, IfOk};
 ghost use Rattle.abi_json.specs.Documents.{IsDocument};
 ghost use Rattle.abi_json.specs.Documents as spec;
 
+use crate::beside::SideNotes;
 use abi_base::NoMemory;
 use commands::{Outcome, Verdict};
 use document_head::{Ending, head_of};
 use json_report::with_member;
-use serde_json::Value;
+use serde_json::{Value, put};
+use std::alloc::{AllocError, Global};
 use std::rt::Files;
 
 // The line that begins a report.
@@ -44,16 +46,30 @@ fn opened(object: &str) -> &[u8] {
     }
 }
 
+// An object with the sentence that says why there are no notes, or null.
+fn with_missing(alloc: Global, head: Value, missing: Value) -> Result<Value, AllocError> {
+    match head {
+        Value::Object(members) => {
+            let mut members = members;
+            put(&mut members, alloc, "missing_side_notes", missing)?;
+            Ok(Value::Object(members))
+        }
+        other => Ok(other),
+    }
+}
+
 /// The document of a run: its head, with the notes on differences that no rule judges, and the breaks at the end, as the listener
 /// made them.
 pub(crate) fn document_of<R: Files + AllocGlobal>(
     rt: &R,
     ending: &Ending<'_>,
-    side_notes: Value,
+    side_notes: SideNotes,
 ) -> Result<Vec<u8>, NoMemory>
     ensures { IfOk result (λ document. IsDocument ending.now.outcome ending.now.text.now document.items) }
 {
     let breaks = breaks_of(ending.outcome, ending.text);
-    let head = head_of(rt, ending, breaks, side_notes)?.to_string(rt.alloc())?;
+    let SideNotes { notes, missing } = side_notes;
+    let head = head_of(rt, ending, breaks, notes)?;
+    let head = with_missing(rt.alloc(), head, missing)?.to_string(rt.alloc())?;
     with_member(rt.alloc(), opened(head.as_str()), "breaks", breaks)
 }

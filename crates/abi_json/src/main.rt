@@ -12,7 +12,7 @@ mod words;
 ghost use Rattle.std.specs.Prelude.{◌≡◌, codes, IfOk};
 ghost use Rattle.cli_args.specs.Release.{version_text};
 
-use crate::alone::{is_for_notes, notes_told};
+use crate::alone::{are_for_notes, notes_told};
 use crate::told::{Told, told_of};
 use crate::wanted::wanted_by;
 use crate::words::words_of;
@@ -93,7 +93,7 @@ fn told_by_words<R: Files + AllocGlobal>(
     if asks_for_version(words) {
         return version_told(rt.alloc());
     }
-    if is_for_notes(words) {
+    if are_for_notes(rt.alloc(), words)? {
         return notes_told(rt, words);
     }
     let mut inputs = FileInputs::new(rt);

@@ -5,7 +5,7 @@ ghost use Rattle.abi_json.specs.Documents.{IsDocument, TellsBreaks};
 ghost use Rattle.abi_top.specs.Calls.{Call, call_of};
 ghost use Rattle.json_report.specs.Breaks.{json_voice};
 
-use crate::beside::side_notes_value;
+use crate::beside::side_notes_of;
 use crate::document::document_of;
 use abi_base::{Inputs, NoMemory};
 use abi_top::run;
@@ -44,7 +44,7 @@ fn add_alone(
 fn document_told<R: Files + AllocGlobal>(rt: &R, ending: &Ending<'_>) -> Result<Vec<u8>, NoMemory>
     ensures { IfOk result (λ document. IsDocument ending.now.outcome ending.now.text.now document.items) }
 {
-    let side_notes = side_notes_value(rt, ending)?;
+    let side_notes = side_notes_of(rt, ending)?;
     document_of(rt, ending, side_notes)
 }
 

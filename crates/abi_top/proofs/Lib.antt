@@ -1,5 +1,4 @@
 mod Alike
-mod Limits
 mod Printed
 mod Rows
 mod Single

@@ -24,7 +24,7 @@ use Rattle.abi_top.specs.Rows.Listings.{OnListing}
 use Rattle.abi_top.specs.Rows.Migrate.{OnMigrate}
 use Rattle.abi_top.specs.Rows.Trial.{OnTrial}
 use Rattle.abi_top.specs.Rows.Verify.{OnVerify}
-use Rattle.abi_top.specs.Text.{accepted_text, no_tag_text, refused_text}
+use Rattle.abi_top.specs.Text.{accepted_text, refused_text}
 use Rattle.abi_top.proofs.Alike.{HasOneReport}
 use Rattle.abi_top.proofs.Rows.App.{OfApp, app_says_one, of_app}
 use Rattle.abi_top.proofs.Rows.Check.{HasOneCheck, OfCheck, check_says_one, of_check}
@@ -49,6 +49,7 @@ use Rattle.library_check.specs.Migrations.{IsMigratedText, IsRefusedMigration}
 use Rattle.library_check.specs.Relations.{IsRelationText}
 use Rattle.library_check.specs.Remarks.{remark_on}
 use Rattle.library_check.specs.Verifications.{IsAcceptedText, IsRefusedText}
+use Rattle.library_layout.specs.Command.{no_tag_text}
 use Rattle.library_layout.specs.Covers.{CoversEachBit}
 use Rattle.library_layout.specs.Layouts.{HasNoTag, IsLayoutText}
 use Rattle.report.specs.Listening.{Voice}

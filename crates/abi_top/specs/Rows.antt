@@ -9,16 +9,23 @@ pub mod Compose
 pub mod Layout
 pub mod App
 use Rattle.std.specs.Prelude.{List}
-use Rattle.abi_top.specs.Rows.App.{app_inputs, app_passes, app_says}
-use Rattle.abi_top.specs.Rows.Check.{check_inputs, check_passes, check_says}
-use Rattle.abi_top.specs.Rows.Compose.{compose_inputs, compose_passes, compose_says}
-use Rattle.abi_top.specs.Rows.Layout.{layout_inputs, layout_passes, layout_says}
-use Rattle.abi_top.specs.Rows.Listings.{entries_inputs, entries_passes, entries_says, exports_inputs, exports_passes, exports_says}
-use Rattle.abi_top.specs.Rows.Migrate.{migrate_inputs, migrate_passes, migrate_says}
-use Rattle.abi_top.specs.Rows.Trial.{trial_inputs, trial_passes, trial_says}
-use Rattle.abi_top.specs.Rows.Verify.{verify_inputs, verify_passes, verify_says}
+use Rattle.abi_top.specs.Rows.App.{app_inputs, app_says}
+use Rattle.abi_top.specs.Rows.Check.{check_inputs, check_says}
+use Rattle.abi_top.specs.Rows.Compose.{compose_inputs, compose_says}
+use Rattle.abi_top.specs.Rows.Migrate.{migrate_inputs, migrate_says}
+use Rattle.abi_top.specs.Rows.Trial.{trial_inputs, trial_says}
+use Rattle.abi_top.specs.Rows.Verify.{verify_inputs, verify_says}
 use Rattle.cli_args.specs.Commands.{PlainRequest, check, verify, entries, exports, trial, migrate, compose, layout, app}
 use Rattle.commands.specs.Commands.{Command}
+use Rattle.library_check.specs.Rows.App.{app_passes}
+use Rattle.library_check.specs.Rows.Check.{check_passes}
+use Rattle.library_check.specs.Rows.Compose.{compose_passes}
+use Rattle.library_check.specs.Rows.Migrate.{migrate_passes}
+use Rattle.library_check.specs.Rows.Trial.{trial_passes}
+use Rattle.library_check.specs.Rows.Verify.{verify_passes}
+use Rattle.library_layout.specs.Command.{layout_inputs, layout_passes, layout_says}
+use Rattle.listings.specs.entries.Command.{entries_inputs, entries_passes, entries_says}
+use Rattle.listings.specs.exports.Command.{exports_inputs, exports_passes, exports_says}
 use Rattle.report.specs.Listening.{Voice}
 use Rattle.report.specs.styles.Wanted.{wanted_voices}
 

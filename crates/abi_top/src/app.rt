@@ -2,19 +2,19 @@
 ghost use Rattle.std.specs.Prelude.{◌≡◌, ◌≤◌, ℕ, List, [], ◌∷◌, Some, length, map, All, OnOk, IfOk, IfErr};
 ghost use Rattle.abi_base.specs.declared.fault.NoMemory.TheVariants.{Allocation};
 ghost use Rattle.abi_base.specs.Limits.{input_limit};
-ghost use Rattle.abi_top.specs.Rows.App.{AppSays, app_inputs, app_passes, app_says};
+ghost use Rattle.abi_top.specs.Rows.App.{AppSays, app_inputs, app_says};
+ghost use Rattle.library_check.specs.Rows.App.{app_asks, app_passes};
 ghost use Rattle.report.specs.Listening.{Voice};
 ghost use Rattle.cli_args.specs.Commands.{plain_word};
-ghost use Rattle.commands.specs.Commands.{asks_of, places_of, plain_place};
+ghost use Rattle.commands.specs.Commands.{places_of, plain_place};
 ghost use Rattle.commands.specs.Faults.{AreReadable, StopsAt};
-ghost use Rattle.library_check.specs.Applications.{IsAppJudged, IsNotJudged};
-ghost use Rattle.library_check.specs.Limits.{AppPasses, OnNotJudged};
+ghost use Rattle.library_check.specs.Applications.{IsAppJudged};
 ghost use Rattle.report.specs.styles.Wanted.{wanted_voices};
 
 use abi_base::NoMemory;
 use cli_args::commands::AppWords;
 use commands::{Command, Input, Judgement, Place, Stop, Verdict, four};
-use library_check::{AppFiles, AppJudged, AppResult, NotJudged};
+use library_check::{AppFiles, AppJudged, AppResult};
 use report::Listener;
 use report::styles::{ReportStyle, wanted_listeners};
 use std::alloc::Global;
@@ -100,34 +100,15 @@ fn judge_app(
     requires old_short { length files.now.old.now ≤ input_limit }
     requires new_short { length files.now.new.now ≤ input_limit }
     requires unheard { All (λ listener. heard listener ≡ []) listeners.items }
-    ensures readable { (rules_name : _) (app_name old_name new_name : List ℕ)
-        → OnOk result (AreReadable (asks_of (app_inputs rules_name app_name old_name new_name))
+    ensures readable { OnOk result (AreReadable app_asks
         (files.now.app.now ∷ files.now.old.now ∷ files.now.new.now ∷ files.now.rules.now ∷ [])) }
     ensures said { IfOk result (λ j. app_says (wanted_voices report (map voice listeners.items))
         (files.now.app.now ∷ files.now.old.now ∷ files.now.new.now ∷ files.now.rules.now ∷ [])
         j.verdict j.untyped j.text.items) }
-    ensures stops { (rules_name : _) (app_name old_name new_name : List ℕ)
-        → IfErr result (StopsAt (asks_of (app_inputs rules_name app_name old_name new_name)) app_passes
+    ensures stops { IfErr result (StopsAt app_asks app_passes
         (files.now.app.now ∷ files.now.old.now ∷ files.now.new.now ∷ files.now.rules.now ∷ [])) }
 {
     let told = wanted_listeners(alloc, listeners, report)?;
-    match library_check::app(alloc, files, told) {
-        Ok(said) => Ok(judgement_of(said)),
-        Err(not_judged) => Err(stop_of(not_judged)),
-    }
-}
-
-// Why there is no verdict, by the input that cannot be read.
-const fn stop_of(not_judged: NotJudged) -> Stop
-    ensures { (rules_name : _) (app_name old_name new_name app old new rules : List ℕ)
-        → IsNotJudged app old new rules not_judged → OnNotJudged not_judged (AppPasses app old new rules)
-        → StopsAt (asks_of (app_inputs rules_name app_name old_name new_name)) app_passes (app ∷ old ∷ new ∷ rules ∷ []) result }
-{
-    match not_judged {
-        NotJudged::App(fault) => Stop::Unreadable(Input::App, fault),
-        NotJudged::Old(fault) => Stop::Unreadable(Input::Old, fault),
-        NotJudged::New(fault) => Stop::Unreadable(Input::New, fault),
-        NotJudged::Rules(fault) => Stop::Unreadable(Input::Rules, fault),
-        NotJudged::NoMemory(cause) => Stop::NoMemory(cause),
-    }
+    let said = library_check::app(alloc, files, told)?;
+    Ok(judgement_of(said))
 }

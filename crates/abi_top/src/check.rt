@@ -3,10 +3,12 @@ ghost use Rattle.std.specs.Prelude.{◌≡◌, ◌≤◌, ℕ, List, [], ◌∷�
 ghost use Rattle.abi_base.specs.declared.fault.NoMemory.TheVariants.{Allocation};
 ghost use Rattle.abi_base.specs.Limits.{input_limit};
 ghost use Rattle.abi_base.specs.declared.remark.Remark.{Remark as AnyRemark};
-ghost use Rattle.abi_top.specs.Rows.Check.{CheckSays, check_inputs, check_passes, check_says};
+ghost use Rattle.abi_top.specs.Rows.Check.{CheckSays, check_inputs, check_says};
+ghost use Rattle.library_check.specs.Inputs.{check_asks};
+ghost use Rattle.library_check.specs.Rows.Check.{check_passes};
 ghost use Rattle.report.specs.Listening.{Voice};
 ghost use Rattle.cli_args.specs.Commands.{plain_word};
-ghost use Rattle.commands.specs.Commands.{asks_of, places_of, plain_place};
+ghost use Rattle.commands.specs.Commands.{places_of, plain_place};
 ghost use Rattle.commands.specs.Faults.{AreReadable, StopsAt};
 ghost use Rattle.library_check.specs.Checks.{IsChecked};
 ghost use Rattle.report.specs.styles.Wanted.{wanted_voices};
@@ -16,7 +18,7 @@ ghost use Rattle.library_check.specs.Remarks.{remark_on};
 use abi_base::NoMemory;
 use cli_args::commands::CheckWords;
 use commands::{Command, Input, Judgement, Place, Stop, Verdict, three};
-use library_check::{CheckResult, Checked, Unchecked};
+use library_check::{CheckResult, Checked};
 use report::Listener;
 use report::styles::{ReportStyle, wanted_listeners};
 use std::alloc::Global;
@@ -97,21 +99,12 @@ fn check_pair(
     requires old_short { length old.now ≤ input_limit }
     requires new_short { length new.now ≤ input_limit }
     requires unheard { All (λ listener. heard listener ≡ []) listeners.items }
-    ensures readable { (rules_name : _) (old_name new_name : List ℕ)
-        → OnOk result (AreReadable (asks_of (check_inputs rules_name old_name new_name))
-        (old.now ∷ new.now ∷ rules.now ∷ [])) }
+    ensures readable { OnOk result (AreReadable check_asks (old.now ∷ new.now ∷ rules.now ∷ [])) }
     ensures said { IfOk result (λ j. check_says (wanted_voices report (map voice listeners.items))
         (old.now ∷ new.now ∷ rules.now ∷ []) j.verdict j.untyped j.text.items) }
-    ensures stops { (rules_name : _) (old_name new_name : List ℕ)
-        → IfErr result (StopsAt (asks_of (check_inputs rules_name old_name new_name)) check_passes
-        (old.now ∷ new.now ∷ rules.now ∷ [])) }
+    ensures stops { IfErr result (StopsAt check_asks check_passes (old.now ∷ new.now ∷ rules.now ∷ [])) }
 {
     let told = wanted_listeners(alloc, listeners, report)?;
-    match library_check::check(alloc, old, new, rules, told) {
-        Ok(said) => Ok(judgement_of(said)),
-        Err(Unchecked::Old(fault)) => Err(Stop::Unreadable(Input::Old, fault)),
-        Err(Unchecked::New(fault)) => Err(Stop::Unreadable(Input::New, fault)),
-        Err(Unchecked::Rules(fault)) => Err(Stop::Unreadable(Input::Rules, fault)),
-        Err(Unchecked::NoMemory(cause)) => Err(Stop::NoMemory(cause)),
-    }
+    let said = library_check::check(alloc, old, new, rules, told)?;
+    Ok(judgement_of(said))
 }

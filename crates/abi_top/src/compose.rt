@@ -2,17 +2,16 @@
 ghost use Rattle.std.specs.Prelude.{◌≡◌, ◌≤◌, ℕ, List, [], ◌∷◌, length, OnOk, IfOk, IfErr, map};
 ghost use Rattle.abi_base.specs.declared.fault.NoMemory.TheVariants.{Allocation};
 ghost use Rattle.abi_base.specs.Limits.{input_limit};
-ghost use Rattle.abi_top.specs.Rows.Compose.{compose_inputs, compose_passes, compose_says};
-ghost use Rattle.commands.specs.Commands.{asks_of, places_of, plain_place};
+ghost use Rattle.abi_top.specs.Rows.Compose.{compose_inputs, compose_says};
+ghost use Rattle.library_check.specs.Rows.Compose.{compose_asks, compose_passes};
+ghost use Rattle.commands.specs.Commands.{places_of, plain_place};
 ghost use Rattle.commands.specs.Faults.{AreReadable, StopsAt};
-ghost use Rattle.library_check.specs.Compositions.{IsUncomposed, PlainFiles};
-ghost use Rattle.library_check.specs.Limits.{ComposePasses, OnUncomposed};
 
 use crate::text;
 use abi_base::NoMemory;
 use cli_args::commands::ComposeWords;
 use commands::{Command, Input, Judgement, Place, Stop, Verdict, five};
-use library_check::{ChainFiles, Composed, Uncomposed};
+use library_check::{ChainFiles, Composed};
 use report::Listener;
 use std::alloc::Global;
 
@@ -74,52 +73,33 @@ fn compose_certificates(alloc: Global, files: &ChainFiles) -> Result<Judgement, 
     requires first_short { length files.now.first.now ≤ input_limit }
     requires middle_short { length files.now.middle.now ≤ input_limit }
     requires last_short { length files.now.last.now ≤ input_limit }
-    ensures readable { (first middle last certificate1 certificate2 : List ℕ)
-        → OnOk result (AreReadable (asks_of (compose_inputs first middle last certificate1 certificate2))
+    ensures readable { OnOk result (AreReadable compose_asks
         (files.now.first.now ∷ files.now.middle.now ∷ files.now.last.now
         ∷ files.now.certificate1.now ∷ files.now.certificate2.now ∷ [])) }
     ensures said { IfOk result (λ j. compose_says
         (files.now.first.now ∷ files.now.middle.now ∷ files.now.last.now
         ∷ files.now.certificate1.now ∷ files.now.certificate2.now ∷ [])
         j.verdict j.untyped j.text.items) }
-    ensures stops { (first middle last certificate1 certificate2 : List ℕ)
-        → IfErr result (StopsAt (asks_of (compose_inputs first middle last certificate1 certificate2)) compose_passes
+    ensures stops { IfErr result (StopsAt compose_asks compose_passes
         (files.now.first.now ∷ files.now.middle.now ∷ files.now.last.now
         ∷ files.now.certificate1.now ∷ files.now.certificate2.now ∷ [])) }
 {
-    let refused = match library_check::compose(alloc, files) {
-        Ok(Composed::Yes(text)) => {
+    let composed = library_check::compose(alloc, files)?;
+    let refused = match composed {
+        Composed::Yes(text) => {
             return Ok(Judgement {
                 verdict: Verdict::Yes,
                 untyped: None,
                 text,
             });
         }
-        Ok(Composed::First(refused)) => text::refused_first(alloc, refused)?,
-        Ok(Composed::Second(refused)) => text::refused_second(alloc, refused)?,
-        Ok(Composed::Between(refused)) => text::refused(alloc, refused)?,
-        Err(uncomposed) => return Err(stop_of(uncomposed)),
+        Composed::First(refused) => text::refused_first(alloc, refused)?,
+        Composed::Second(refused) => text::refused_second(alloc, refused)?,
+        Composed::Between(refused) => text::refused(alloc, refused)?,
     };
     Ok(Judgement {
         verdict: Verdict::Refused,
         untyped: None,
         text: refused,
     })
-}
-
-// Why there is no verdict, by the input that cannot be read.
-const fn stop_of(uncomposed: Uncomposed) -> Stop
-    ensures { (first middle last certificate1 certificate2 : List ℕ) (files : PlainFiles)
-        → IsUncomposed files uncomposed → OnUncomposed uncomposed (ComposePasses files)
-        → StopsAt (asks_of (compose_inputs first middle last certificate1 certificate2)) compose_passes
-        (files.first ∷ files.middle ∷ files.last ∷ files.certificate1 ∷ files.certificate2 ∷ []) result }
-{
-    match uncomposed {
-        Uncomposed::First(fault) => Stop::Unreadable(Input::First, fault),
-        Uncomposed::Middle(fault) => Stop::Unreadable(Input::Middle, fault),
-        Uncomposed::Last(fault) => Stop::Unreadable(Input::Last, fault),
-        Uncomposed::Certificate1(fault) => Stop::Unreadable(Input::Certificate1, fault),
-        Uncomposed::Certificate2(fault) => Stop::Unreadable(Input::Certificate2, fault),
-        Uncomposed::NoMemory(cause) => Stop::NoMemory(cause),
-    }
 }

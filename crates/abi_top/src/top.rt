@@ -31,9 +31,6 @@ ghost use Rattle.trial_libraries.specs.Limits.{most_functions};
 use crate::app::App;
 use crate::check::Check;
 use crate::compose::Compose;
-use crate::entries::Entries;
-use crate::exports::Exports;
-use crate::layout::Layout;
 use crate::migrate::Migrate;
 use crate::trial::Trial;
 use crate::verify::Verify;
@@ -42,6 +39,8 @@ use cli_args::laws::a_trial_is_of_a_count;
 use cli_args::{ParsedArguments, Request, parse_arguments, usage, version};
 use commands::{Answer, File, Input, Outcome, Place, Verdict, answer_with};
 use library_check::laws::{a_file_may_replace_itself, compatible_is_that_accesses_agree};
+use library_layout::Layout;
+use listings::{Entries, Exports};
 use report::Listener;
 use std::alloc::Global;
 

@@ -3,14 +3,13 @@ ghost use Rattle.std.specs.Prelude.{◌≡◌, ◌≤◌, ◌<◌, map, IfErr, I
 ghost use Rattle.abi_base.specs.declared.fault.NoMemory.TheVariants.{Allocation};
 ghost use Rattle.trial_libraries.specs.Libraries.{library as made_library};
 ghost use Rattle.trial_libraries.specs.Limits.{most_functions};
-ghost use Rattle.abi_top.specs.Rows.Trial.{trial_inputs, trial_passes, trial_says};
+ghost use Rattle.abi_top.specs.Rows.Trial.{trial_inputs, trial_says};
+ghost use Rattle.library_check.specs.Rows.Trial.{trial_passes};
 ghost use Rattle.commands.specs.Commands.{places_of, plain_place};
 ghost use Rattle.commands.specs.Reading.{AreOwnShort};
 
 use abi_base::NoMemory;
 use commands::{Command, Input, Judgement, Place, Stop, Verdict, two};
-use library_check::Unchecked;
-use library_check::laws::no_rules_are_readable;
 use library_check::trial::try_libraries;
 use report::Listener;
 use std::alloc::Global;
@@ -69,18 +68,12 @@ impl Command for Trial {
         all: &[Vec<u8>],
         _listeners: Vec<Box<dyn Listener>>,
     ) -> Result<Judgement, Stop> {
-        no_rules_are_readable();
         let (old, new) = two(all);
-        match try_libraries(alloc, self.count, old, new) {
-            Ok(text) => Ok(Judgement {
-                verdict: Verdict::Done,
-                untyped: None,
-                text,
-            }),
-            Err(Unchecked::Old(fault)) => Err(Stop::Unreadable(Input::Old, fault)),
-            Err(Unchecked::New(fault)) => Err(Stop::Unreadable(Input::New, fault)),
-            Err(Unchecked::Rules(_)) => unreachable!(),
-            Err(Unchecked::NoMemory(cause)) => Err(Stop::NoMemory(cause)),
-        }
+        let text = try_libraries(alloc, self.count, old, new)?;
+        Ok(Judgement {
+            verdict: Verdict::Done,
+            untyped: None,
+            text,
+        })
     }
 }

@@ -2,16 +2,17 @@
 ghost use Rattle.std.specs.Prelude.{◌≡◌, ◌≤◌, ℕ, List, [], ◌∷◌, length, OnOk, IfOk, IfErr, map};
 ghost use Rattle.abi_base.specs.declared.fault.NoMemory.TheVariants.{Allocation};
 ghost use Rattle.abi_base.specs.Limits.{input_limit};
-ghost use Rattle.abi_top.specs.Rows.Verify.{verify_inputs, verify_passes, verify_says};
+ghost use Rattle.abi_top.specs.Rows.Verify.{verify_inputs, verify_says};
+ghost use Rattle.library_check.specs.Rows.Verify.{verify_asks, verify_passes};
 ghost use Rattle.cli_args.specs.Commands.{plain_word};
-ghost use Rattle.commands.specs.Commands.{asks_of, places_of, plain_place};
+ghost use Rattle.commands.specs.Commands.{places_of, plain_place};
 ghost use Rattle.commands.specs.Faults.{AreReadable, StopsAt};
 
 use crate::text;
 use abi_base::NoMemory;
 use cli_args::commands::CertificateWords;
 use commands::{Command, Input, Judgement, Place, Stop, Verdict, four};
-use library_check::{Unverified, Verified};
+use library_check::Verified;
 use report::Listener;
 use std::alloc::Global;
 
@@ -69,30 +70,23 @@ fn verify_certificate(
 ) -> Result<Judgement, Stop>
     requires old_short { length old.now ≤ input_limit }
     requires new_short { length new.now ≤ input_limit }
-    ensures readable { (rules_name : _) (old_name new_name certificate_name : List ℕ)
-        → OnOk result (AreReadable (asks_of (verify_inputs rules_name old_name new_name certificate_name))
-        (old.now ∷ new.now ∷ rules.now ∷ certificate.now ∷ [])) }
+    ensures readable { OnOk result (AreReadable verify_asks (old.now ∷ new.now ∷ rules.now ∷ certificate.now ∷ [])) }
     ensures said { IfOk result (λ j. verify_says
         (old.now ∷ new.now ∷ rules.now ∷ certificate.now ∷ []) j.verdict j.untyped j.text.items) }
-    ensures stops { (rules_name : _) (old_name new_name certificate_name : List ℕ)
-        → IfErr result (StopsAt (asks_of (verify_inputs rules_name old_name new_name certificate_name)) verify_passes
+    ensures stops { IfErr result (StopsAt verify_asks verify_passes
         (old.now ∷ new.now ∷ rules.now ∷ certificate.now ∷ [])) }
 {
-    match library_check::verify(alloc, old, new, rules, certificate) {
-        Ok(Verified::Accepted) => Ok(Judgement {
+    let verified = library_check::verify(alloc, old, new, rules, certificate)?;
+    match verified {
+        Verified::Accepted => Ok(Judgement {
             verdict: Verdict::Yes,
             untyped: None,
             text: text::accepted(alloc)?,
         }),
-        Ok(Verified::Refused(refused)) => Ok(Judgement {
+        Verified::Refused(refused) => Ok(Judgement {
             verdict: Verdict::Refused,
             untyped: None,
             text: text::refused(alloc, refused)?,
         }),
-        Err(Unverified::Old(fault)) => Err(Stop::Unreadable(Input::Old, fault)),
-        Err(Unverified::New(fault)) => Err(Stop::Unreadable(Input::New, fault)),
-        Err(Unverified::Rules(fault)) => Err(Stop::Unreadable(Input::Rules, fault)),
-        Err(Unverified::Certificate(fault)) => Err(Stop::Unreadable(Input::Certificate, fault)),
-        Err(Unverified::NoMemory(cause)) => Err(Stop::NoMemory(cause)),
     }
 }

@@ -15,3 +15,5 @@ mod Asking
 mod WrongLemmas
 mod NamedLemmas
 mod FoundLemmas
+mod GivenLemmas
+mod CommandRows

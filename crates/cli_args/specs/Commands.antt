@@ -1,11 +1,12 @@
 -- The commands: what each may request, and a row for each with its word, what it takes, and how it makes a request of that.
-use Rattle.std.specs.Prelude.{ℕ, Bool, true, false, List, [], ◌∷◌, Option, Some, None, codes, map, if◌then◌else◌, option_map, slice_get, unwrap_or}
-use Rattle.std.specs.List.{concat}
+use Rattle.std.specs.Prelude.{◌≡◌, ◌==◌, ℕ, Bool, true, false, List, [], ◌∷◌, Option, Some, None, codes, map, if◌then◌else◌, option_map, slice_get, unwrap_or}
+use Rattle.std.specs.List.{concat, slice_split}
 use Rattle.std.specs.Borrow.{Bor}
 use Rattle.std.specs.Str.{bytes_eq}
 use Rattle.report.specs.declared.styles.report_option.ReportStyle.{ReportStyle}
 use Rattle.cli_args.specs.declared.commands.CommandName.{CommandName}
 use Rattle.cli_args.specs.declared.commands.CommandName.TheVariants.{Check, Verify, Entries, Exports, Trial, Migrate, Compose, Layout, App}
+use Rattle.cli_args.specs.declared.commands.CommandRow.{CommandRow}
 use Rattle.cli_args.specs.declared.commands.Makings.{Makings}
 use Rattle.cli_args.specs.declared.commands.Makings.TheVariants.{Words, Style, Count}
 use Rattle.cli_args.specs.declared.commands.Request.{Request}
@@ -112,13 +113,20 @@ makings_of (of_words make) = Words
 makings_of (of_style make) = Style
 makings_of (of_count make) = Count
 
+-- a row of the code says what the row of its command says, with the arguments as one text that has a space (32) between each two
+pub record IsRow (row : CommandRow) : Type 0 where
+  pub word : row.word.now ≡ (row_of row.name).word
+  pub rules : row.takes_rules ≡ (row_of row.name).takes_rules
+  pub makings : row.makings ≡ makings_of (row_of row.name).making
+  pub arguments : slice_split (λ byte. byte == 32) row.arguments.now ≡ (row_of row.name).arguments
+
 -- a command takes `--report`
 abbrev pub takes_report : Makings → Bool
 takes_report Words = false
 takes_report Style = true
 takes_report Count = false
 
-abbrev named_among : List CommandName → List ℕ → Option CommandName
+abbrev pub named_among : List CommandName → List ℕ → Option CommandName
 named_among [] word = None
 named_among (name ∷ rest) word = if bytes_eq word (row_of name).word then Some name else named_among rest word
 
@@ -127,12 +135,12 @@ unfoldable pub command_named : List ℕ → Option CommandName
 command_named word = named_among all_commands word
 
 -- the usage of a command: abi COMMAND [--rules FILE] [--report STYLE] ARGUMENTS
-abbrev usage_of : Row → List ℕ
+abbrev pub usage_of : Row → List ℕ
 usage_of row = concat (codes "abi " ∷ row.word ∷ (if row.takes_rules then codes " [--rules FILE]" else [])
     ∷ (if takes_report (makings_of row.making) then codes " [--report text|table|counts|first|own]" else []) ∷ map (λ argument. 32 ∷ argument) row.arguments)
 
 -- the usage lines of these commands, the first one behind this word; every line ends with a line feed (10)
-abbrev usage_lines : List CommandName → (head : List ℕ) → List ℕ
+abbrev pub usage_lines : List CommandName → (head : List ℕ) → List ℕ
 usage_lines [] head = []
 usage_lines (name ∷ rest) head = concat (head ∷ usage_of (row_of name) ∷ (10 ∷ []) ∷ usage_lines rest (codes "       ") ∷ [])
 

@@ -6,4 +6,5 @@ pub mod Release
 pub mod ParsedArguments
 pub mod Requests
 pub mod PlainLines
+pub mod Given
 pub mod WrongWords

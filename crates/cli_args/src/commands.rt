@@ -1,7 +1,8 @@
-// The commands: the request of each, its word, what it takes, and its line of the usage.
-ghost use Rattle.std.specs.Prelude.{◌≡◌, IfErr, IfOk, false, length, option_map, true};
+// The commands: the request of each, its row in the table of commands, and its line of the usage.
+ghost use Rattle.std.specs.Prelude.{◌≡◌, ◌∷◌, [], IfErr, IfOk, IfSome, codes, if◌then◌else◌, length, map, option_map, string_bytes};
+ghost use Rattle.std.specs.List.{AllByRecursion, concat};
 ghost use Rattle.abi_base.specs.declared.fault.NoMemory.TheVariants.{Allocation};
-ghost use Rattle.cli_args.specs.Commands.{makings_of, plain_request, plain_word, row_of, usage_text};
+ghost use Rattle.cli_args.specs.Commands.{IsRow, all_commands, plain_request, plain_word, row_of, usage_of, usage_text};
 ghost use Rattle.cli_args.specs.Commands as spec;
 ghost use Rattle.cli_args.specs.ParsedArguments.{made_of};
 ghost use Rattle.cli_args.specs.Words.{texts};
@@ -9,7 +10,7 @@ ghost use Rattle.cli_args.specs.Words.{texts};
 use crate::judge::{trial_count, word_at};
 use abi_base::NoMemory;
 use report::styles::ReportStyle;
-use std::alloc::Global;
+use std::alloc::{AllocError, Global};
 
 /// The arguments of `check`, which answers whether the new library may replace the old one, with a report in this style if not.
 #[derive(Clone, Copy)]
@@ -114,34 +115,6 @@ pub(crate) enum CommandName {
     App,
 }
 
-/// The command with this name.
-#[tactic(auto, unfolding(crate::specs::Commands::command_named))]
-pub(crate) fn command_named(word: &str) -> Option<CommandName>
-    ensures { result ≡ spec.command_named word.now }
-{
-    if word == "check" {
-        Some(CommandName::Check)
-    } else if word == "verify" {
-        Some(CommandName::Verify)
-    } else if word == "entries" {
-        Some(CommandName::Entries)
-    } else if word == "exports" {
-        Some(CommandName::Exports)
-    } else if word == "trial" {
-        Some(CommandName::Trial)
-    } else if word == "migrate" {
-        Some(CommandName::Migrate)
-    } else if word == "app" {
-        Some(CommandName::App)
-    } else if word == "compose" {
-        Some(CommandName::Compose)
-    } else if word == "layout" {
-        Some(CommandName::Layout)
-    } else {
-        None
-    }
-}
-
 /// What a request is made of, beside the rule file.
 #[derive(Clone, Copy)]
 pub(crate) enum Makings {
@@ -153,85 +126,134 @@ pub(crate) enum Makings {
     Count,
 }
 
-/// What a command takes.
+/// A command with its word and what it takes, from which its line of the usage is made.
 #[derive(Clone, Copy)]
-pub(crate) struct Taken {
+pub struct CommandRow {
+    /// The command.
+    pub(crate) name: CommandName,
+    /// The word for it.
+    pub word: &'static str,
     /// Whether it takes `--rules`.
-    pub rules: bool,
+    pub(crate) takes_rules: bool,
     /// What its request is made of. Only one that is made of a style takes `--report`.
-    pub makings: Makings,
-    /// The number of its arguments, not counting its options.
-    pub count: usize,
+    pub(crate) makings: Makings,
+    /// Its arguments as the usage names them, with one space between each two.
+    pub arguments: &'static str,
 }
 
-// This many arguments, and no option.
-const fn arguments(count: usize) -> Taken
-    ensures rules { result.rules ≡ false }
-    ensures makings { result.makings ≡ Makings.Words }
-    ensures count { result.count ≡ count }
+const CHECK: CommandRow = CommandRow {
+    name: CommandName::Check,
+    word: "check",
+    takes_rules: true,
+    makings: Makings::Style,
+    arguments: "OLD NEW",
+};
+
+const VERIFY: CommandRow = CommandRow {
+    name: CommandName::Verify,
+    word: "verify",
+    takes_rules: true,
+    makings: Makings::Words,
+    arguments: "OLD NEW CERT",
+};
+
+const ENTRIES: CommandRow = CommandRow {
+    name: CommandName::Entries,
+    word: "entries",
+    takes_rules: false,
+    makings: Makings::Words,
+    arguments: "LIB",
+};
+
+const EXPORTS: CommandRow = CommandRow {
+    name: CommandName::Exports,
+    word: "exports",
+    takes_rules: false,
+    makings: Makings::Words,
+    arguments: "LIB",
+};
+
+const TRIAL: CommandRow = CommandRow {
+    name: CommandName::Trial,
+    word: "trial",
+    takes_rules: false,
+    makings: Makings::Count,
+    arguments: "N",
+};
+
+const MIGRATE: CommandRow = CommandRow {
+    name: CommandName::Migrate,
+    word: "migrate",
+    takes_rules: true,
+    makings: Makings::Words,
+    arguments: "OLD NEW CERT",
+};
+
+const APP: CommandRow = CommandRow {
+    name: CommandName::App,
+    word: "app",
+    takes_rules: true,
+    makings: Makings::Style,
+    arguments: "APP OLD NEW",
+};
+
+const COMPOSE: CommandRow = CommandRow {
+    name: CommandName::Compose,
+    word: "compose",
+    takes_rules: false,
+    makings: Makings::Words,
+    arguments: "A B C CERT1 CERT2",
+};
+
+const LAYOUT: CommandRow = CommandRow {
+    name: CommandName::Layout,
+    word: "layout",
+    takes_rules: false,
+    makings: Makings::Words,
+    arguments: "LIB TAG",
+};
+
+/// The commands, in the order of the usage.
+pub const COMMANDS: [CommandRow; 9] = [
+    CHECK, VERIFY, ENTRIES, EXPORTS, TRIAL, MIGRATE, APP, COMPOSE, LAYOUT,
+];
+
+/// The commands, in the order in which a sentence names them.
+pub const IN_SENTENCES: [CommandRow; 9] = [
+    CHECK, APP, VERIFY, COMPOSE, MIGRATE, EXPORTS, ENTRIES, LAYOUT, TRIAL,
+];
+
+// The rows of all commands.
+fn command_rows() -> &'static [CommandRow]
+    ensures names { map (λ row. row.name) result.now ≡ all_commands }
+    ensures rows { AllByRecursion IsRow result.now }
 {
-    Taken {
-        rules: false,
-        makings: Makings::Words,
-        count,
-    }
+    &COMMANDS
 }
 
-// One argument, which is a number, and no option.
-const fn number() -> Taken
-    ensures rules { result.rules ≡ false }
-    ensures makings { result.makings ≡ Makings.Count }
-    ensures count { result.count ≡ 1 }
+/// The row of the command with this name.
+pub(crate) fn command_named(word: &str) -> Option<CommandRow>
+    ensures name { option_map (λ row. row.name) result ≡ spec.command_named word.now }
+    ensures row { IfSome result IsRow }
 {
-    Taken {
-        rules: false,
-        makings: Makings::Count,
-        count: 1,
-    }
+    command_rows().iter().find(|row| word == row.word).copied()
 }
 
-// This many arguments, and `--rules`.
-const fn with_rules(count: usize) -> Taken
-    ensures rules { result.rules ≡ true }
-    ensures makings { result.makings ≡ Makings.Words }
-    ensures count { result.count ≡ count }
+/// The number of a command's arguments, not counting its options.
+pub(crate) fn count_of(row: CommandRow) -> usize
+    requires { IsRow row }
+    ensures { result ≡ length (row_of row.name).arguments }
 {
-    Taken {
-        rules: true,
-        makings: Makings::Words,
-        count,
-    }
+    row.arguments.split(' ').count()
 }
 
-// This many arguments, and both options.
-const fn with_report(count: usize) -> Taken
-    ensures rules { result.rules ≡ true }
-    ensures makings { result.makings ≡ Makings.Style }
-    ensures count { result.count ≡ count }
+/// Whether a command takes `--report`, whose request is made of this.
+pub(crate) fn takes_report(makings: Makings) -> bool
+    ensures { result ≡ spec.takes_report makings }
 {
-    Taken {
-        rules: true,
-        makings: Makings::Style,
-        count,
-    }
-}
-
-/// What a command takes.
-pub(crate) const fn taken_by(name: CommandName) -> Taken
-    ensures rules { result.rules ≡ (row_of name).takes_rules }
-    ensures makings { result.makings ≡ makings_of (row_of name).making }
-    ensures count { result.count ≡ length (row_of name).arguments }
-{
-    match name {
-        CommandName::Check => with_report(2),
-        CommandName::Verify => with_rules(3),
-        CommandName::Entries => arguments(1),
-        CommandName::Exports => arguments(1),
-        CommandName::Trial => number(),
-        CommandName::Migrate => with_rules(3),
-        CommandName::Compose => arguments(5),
-        CommandName::Layout => arguments(2),
-        CommandName::App => with_report(3),
+    match makings {
+        Makings::Words | Makings::Count => false,
+        Makings::Style => true,
     }
 }
 
@@ -326,35 +348,49 @@ fn app<'a>(rules: Option<&'a str>, report: ReportStyle, words: &[&'a str]) -> Ap
     }
 }
 
-/// The commands, with the arguments that each one takes, in the order in which a sentence names them.
-pub const COMMANDS: [(&str, &str); 9] = [
-    ("check", "OLD NEW"),
-    ("app", "APP OLD NEW"),
-    ("verify", "OLD NEW CERT"),
-    ("compose", "A B C CERT1 CERT2"),
-    ("migrate", "OLD NEW CERT"),
-    ("exports", "LIB"),
-    ("entries", "LIB"),
-    ("layout", "LIB TAG"),
-    ("trial", "N"),
-];
+// The words of the usage for `--rules`, if a command takes it.
+fn rules_words(takes: bool) -> &'static str
+    ensures { result.now ≡ (if takes then codes " [--rules FILE]" else []) }
+{
+    if takes { " [--rules FILE]" } else { "" }
+}
 
-const USAGE: &str = "\
-usage: abi check [--rules FILE] [--report text|table|counts|first|own] OLD NEW
-       abi verify [--rules FILE] OLD NEW CERT
-       abi entries LIB
-       abi exports LIB
-       abi trial N
-       abi migrate [--rules FILE] OLD NEW CERT
-       abi app [--rules FILE] [--report text|table|counts|first|own] APP OLD NEW
-       abi compose A B C CERT1 CERT2
-       abi layout LIB TAG
-";
+// The words of the usage for `--report`, if a command takes it.
+fn report_words(takes: bool) -> &'static str
+    ensures { result.now ≡ (if takes then codes " [--report text|table|counts|first|own]" else []) }
+{
+    if takes {
+        " [--report text|table|counts|first|own]"
+    } else {
+        ""
+    }
+}
+
+// The line of the usage for a command, behind this word.
+fn usage_line(alloc: Global, head: &str, row: CommandRow) -> Result<String, AllocError>
+    requires { IsRow row }
+    ensures { IfOk result (λ line. string_bytes line
+        ≡ concat (head.now ∷ usage_of (row_of row.name) ∷ (10 ∷ []) ∷ [])) }
+{
+    let word = row.word;
+    let rules = rules_words(row.takes_rules);
+    let report = report_words(takes_report(row.makings));
+    let arguments = row.arguments;
+    let line = format!(in alloc; "{head}abi {word}{rules}{report} {arguments}\n")?;
+    Ok(line)
+}
 
 /// The usage text: a line for each command, with the options and the arguments that it takes.
 pub fn usage(alloc: Global) -> Result<Vec<u8>, NoMemory>
     ensures text { IfOk result (λ text. text.items ≡ usage_text) }
     ensures named { IfErr result (λ e. e ≡ Allocation) }
 {
-    Ok(String::from_str(alloc, USAGE)?.into_bytes())
+    let mut text = String::new(alloc);
+    let mut head = "usage: ";
+    for row in command_rows() {
+        let line = usage_line(alloc, head, *row)?;
+        text.push_str(line.as_str())?;
+        head = "       ";
+    }
+    Ok(text.into_bytes())
 }

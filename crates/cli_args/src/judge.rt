@@ -8,13 +8,13 @@ ghost use Rattle.cli_args.specs.Line.{line_in};
 ghost use Rattle.cli_args.specs.PlainLines.{plain_line};
 ghost use Rattle.cli_args.specs.Trials.{trial_count_of};
 ghost use Rattle.cli_args.specs.Trials as trials;
-ghost use Rattle.cli_args.specs.Commands.{plain_request, plain_word, row_of};
+ghost use Rattle.cli_args.specs.Commands.{IsRow, plain_request, plain_word, row_of};
 ghost use Rattle.cli_args.specs.Commands as commands_spec;
 ghost use Rattle.cli_args.specs.ParsedArguments.{needless_of, request_of, request_on, request_or_usage};
 ghost use Rattle.cli_args.specs.ParsedArguments as parsed_arguments_spec;
 ghost use Rattle.cli_args.specs.Requests.{plain_asked};
 
-use crate::commands::{CommandName, Makings, Request, command_named, made, taken_by};
+use crate::commands::{CommandRow, Request, command_named, count_of, made, takes_report};
 use crate::line::{Line, line_of};
 use crate::parsed_arguments::ParsedArguments;
 use crate::wrong::OptionName;
@@ -40,59 +40,51 @@ pub(crate) fn judged<'a>(matches: &ArgMatches<'a>) -> ParsedArguments<'a>
 fn request_in<'a>(line: Line<'_, 'a>) -> Option<Request<'a>>
     ensures { option_map plain_request result ≡ request_on (plain_line line.entry) }
 {
-    let name = command_named(line.command?)?;
-    requested(name, line.files.unwrap_or(&[]), line.rules, line.report)
+    let row = command_named(line.command?)?;
+    requested(row, line.files.unwrap_or(&[]), line.rules, line.report)
 }
 
 // The request of a command with these arguments and options: it takes all options that are given, and this many arguments.
 fn requested<'a>(
-    name: CommandName,
+    row: CommandRow,
     words: &[&'a str],
     rules: Option<&'a str>,
     report: Option<&'a str>,
 ) -> Option<Request<'a>>
+    requires { IsRow row }
     ensures { option_map plain_request result
-        ≡ request_of (row_of name) (texts words.now) (plain_word rules.entry) (plain_word report.entry) }
+        ≡ request_of (row_of row.name) (texts words.now) (plain_word rules.entry) (plain_word report.entry) }
 {
-    if is_misfit(name, words, rules.is_some(), report.is_some()) {
+    if is_misfit(row, words, rules.is_some(), report.is_some()) {
         return None;
     }
-    made(name, rules, style_of(report), words)
+    made(row.name, rules, style_of(report), words)
 }
 
 // Whether a command does not take one of the options that are given, or takes another number of arguments.
-fn is_misfit(name: CommandName, words: &[&str], has_rules: bool, has_report: bool) -> bool
-    ensures { result ≡ (is_some (needless_of (row_of name) has_rules has_report)
-        || not (length (texts words.now) == length (row_of name).arguments)) }
+fn is_misfit(row: CommandRow, words: &[&str], has_rules: bool, has_report: bool) -> bool
+    requires { IsRow row }
+    ensures { result ≡ (is_some (needless_of (row_of row.name) has_rules has_report)
+        || not (length (texts words.now) == length (row_of row.name).arguments)) }
 {
-    needless_option(name, has_rules, has_report).is_some() || words.len() != taken_by(name).count
+    needless_option(row, has_rules, has_report).is_some() || words.len() != count_of(row)
 }
 
 /// The given option that a command does not take.
 pub(crate) fn needless_option(
-    name: CommandName,
+    row: CommandRow,
     has_rules: bool,
     has_report: bool,
 ) -> Option<OptionName>
-    ensures { result ≡ needless_of (row_of name) has_rules has_report }
+    requires { IsRow row }
+    ensures { result ≡ needless_of (row_of row.name) has_rules has_report }
 {
-    let taken = taken_by(name);
-    if has_report && !takes_report(taken.makings) {
+    if has_report && !takes_report(row.makings) {
         Some(OptionName::Report)
-    } else if has_rules && !taken.rules {
+    } else if has_rules && !row.takes_rules {
         Some(OptionName::Rules)
     } else {
         None
-    }
-}
-
-// Whether a command takes `--report`, whose request is made of this.
-fn takes_report(makings: Makings) -> bool
-    ensures { result ≡ commands_spec.takes_report makings }
-{
-    match makings {
-        Makings::Words | Makings::Count => false,
-        Makings::Style => true,
     }
 }
 

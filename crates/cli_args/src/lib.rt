@@ -3,6 +3,7 @@
 #![tactic(auto)]
 
 pub mod commands;
+mod given;
 mod judge;
 pub mod laws;
 mod line;
@@ -11,6 +12,7 @@ mod release;
 mod wrong;
 
 pub use commands::{Request, usage};
+pub use given::{GivenLine, line_given};
 pub use parsed_arguments::{ParsedArguments, parse_arguments};
 pub use release::{asks_for_version, version};
 pub use wrong::{OptionName, WrongWords, wrong_words};

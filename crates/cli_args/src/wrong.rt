@@ -1,13 +1,13 @@
 // What is wrong with arguments that form no request.
 ghost use Rattle.std.specs.Prelude.{◌≡◌, ◌+◌, ◌<◌, ◌↔◌, IfOk, IsSome, count_by, drop, find, length, option_map};
-ghost use Rattle.cli_args.specs.Commands.{plain_word, row_of};
+ghost use Rattle.cli_args.specs.Commands.{IsRow, plain_word, row_of};
 ghost use Rattle.cli_args.specs.ParsedArguments.{arguments_by, usage};
 ghost use Rattle.cli_args.specs.PlainLines.{plain_line};
 ghost use Rattle.cli_args.specs.Words.{texts};
 ghost use Rattle.cli_args.specs.WrongWords.{NamesOne, plain_wrong, refused_by, without_value, wrong_in, wrong_on, wrong_trial};
 ghost use Rattle.cli_args.specs.WrongWords as spec;
 
-use crate::commands::{CommandName, Makings, command_named, taken_by};
+use crate::commands::{CommandRow, Makings, command_named, count_of};
 use crate::judge::{needless_option, report_style_named, trial_count, word_at};
 use crate::line::{Line, found_in, line_of};
 use crate::release::asks_for_version;
@@ -95,27 +95,27 @@ fn wrong_line<'a>(line: Line<'_, 'a>) -> Option<WrongWords<'a>>
     let Some(command) = line.command else {
         return Some(WrongWords::MissingCommand);
     };
-    let Some(name) = command_named(command) else {
+    let Some(row) = command_named(command) else {
         return Some(WrongWords::UnknownCommand(command));
     };
-    if let Some(option) = needless_option(name, line.rules.is_some(), line.report.is_some()) {
+    if let Some(option) = needless_option(row, line.rules.is_some(), line.report.is_some()) {
         return Some(WrongWords::NeedlessOption(command, option));
     }
-    wrong_count(name, command, line.files.unwrap_or(&[]), line.report)
+    wrong_count(row, command, line.files.unwrap_or(&[]), line.report)
 }
 
 // What is wrong with the number of a command's arguments, or with one of them.
 fn wrong_count<'a>(
-    name: CommandName,
+    row: CommandRow,
     command: &'a str,
     words: &[&'a str],
     report: Option<&'a str>,
 ) -> Option<WrongWords<'a>>
+    requires { IsRow row }
     ensures { option_map plain_wrong result
-        ≡ spec.wrong_count_of (row_of name) command.entry.now (texts words.now) (plain_word report.entry) }
+        ≡ spec.wrong_count_of (row_of row.name) command.entry.now (texts words.now) (plain_word report.entry) }
 {
-    let taken = taken_by(name);
-    let wanted = taken.count;
+    let wanted = count_of(row);
     let given = words.len();
     if given != wanted {
         return Some(WrongWords::WrongCount {
@@ -124,7 +124,7 @@ fn wrong_count<'a>(
             given,
         });
     }
-    match taken.makings {
+    match row.makings {
         Makings::Words => None,
         Makings::Style => wrong_style(report),
         Makings::Count => wrong_number(words),

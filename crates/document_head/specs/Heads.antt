@@ -1,10 +1,11 @@
 -- The members of a document that the outcome, the arguments and the printed text decide.
-use Rattle.std.specs.Prelude.{◌≡◌, ◌⊎◌, ℕ, Bool, true, false, List, [], ◌∷◌, Option, Some, None, codes}
+use Rattle.std.specs.Prelude.{◌≡◌, ◌⊎◌, ℕ, Bool, true, false, List, [], ◌∷◌, Option, Some, None, codes, unwrap_or}
 use Rattle.std.specs.Str.{IsUtf8}
 use Rattle.abi_base.specs.Fault.{fault_number, fault_name}
 use Rattle.abi_base.specs.declared.fault.Fault.{Fault}
 use Rattle.abi_base.specs.declared.remark.Remark.{Remark}
 use Rattle.abi_base.specs.declared.remark.SizedExports.{SizedExports}
+use Rattle.cli_args.specs.Given.{command_of, given_in}
 use Rattle.commands.specs.Inputs.{input_word}
 use Rattle.commands.specs.Outcomes.{exit_number}
 use Rattle.commands.specs.declared.input.Input.{Input}
@@ -21,10 +22,15 @@ HasMember name value document = get name document ≡ Some value
 
 -- ---- the values of the members
 
--- the first argument, and the empty text if there is none: the member `command`
+-- the first argument, and the empty text if there is none
+abbrev pub first_word : List (List ℕ) → List ℕ
+first_word [] = []
+first_word (word ∷ rest) = word
+
+-- the word that stands where a command does, wherever the options stand; if the arguments are no line, the first argument: the member
+-- `command`
 abbrev pub command_word : List (List ℕ) → List ℕ
-command_word [] = []
-command_word (word ∷ rest) = word
+command_word words = unwrap_or (command_of (given_in words)) (first_word words)
 
 abbrev pub verdict_word : Verdict → List ℕ
 verdict_word Yes = codes "yes"

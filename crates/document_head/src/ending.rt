@@ -1,10 +1,11 @@
 // How a run ended.
-ghost use Rattle.std.specs.Prelude.{◌≡◌, ◌≤◌, [], length, map};
+ghost use Rattle.std.specs.Prelude.{◌≡◌, ◌≤◌, [], length, map, IfOk};
 ghost use Rattle.abi_base.specs.Limits.{input_limit};
 ghost use Rattle.commands.specs.Commands.{plain_file};
 ghost use Rattle.explain.specs.Notes.{IsUnnamed};
 
 use crate::files::bytes_of;
+use abi_base::NoMemory;
 use commands::{File, Input, Outcome};
 use explain::name_of;
 use std::rt::Files;
@@ -33,16 +34,20 @@ pub struct Ending<'e> {
     pub wanted: Wanted,
 }
 
-/// The bytes of an input; none if it was not read under a name, or cannot be read again.
-pub fn input_bytes<R: Files + AllocGlobal>(rt: &R, ending: &Ending<'_>, which: Input) -> Vec<u8>
-    ensures within { length result.items ≤ input_limit }
-    ensures unnamed { IsUnnamed (map plain_file ending.now.files.now) which → result.items ≡ [] }
+/// The bytes of an input; none if it was not read under a name, or cannot be read again. It fails only if memory runs out.
+pub fn input_bytes<R: Files + AllocGlobal>(
+    rt: &R,
+    ending: &Ending<'_>,
+    which: Input,
+) -> Result<Vec<u8>, NoMemory>
+    ensures within { IfOk result (λ bytes. length bytes.items ≤ input_limit) }
+    ensures unnamed { IsUnnamed (map plain_file ending.now.files.now) which → IfOk result (λ bytes. bytes.items ≡ []) }
 {
     let Some(path) = name_of(ending.files, which) else {
-        return Vec::new(rt.alloc());
+        return Ok(Vec::new(rt.alloc()));
     };
-    match bytes_of(rt, path) {
-        Some(bytes) => bytes,
-        None => Vec::new(rt.alloc()),
+    match bytes_of(rt, path)? {
+        Some(bytes) => Ok(bytes),
+        None => Ok(Vec::new(rt.alloc())),
     }
 }

@@ -2,7 +2,7 @@
 ghost use Rattle.std.specs.Prelude.{◌≡◌, ◌++◌, [], ◌∷◌, codes, map, option_map, IfOk, OnOk, string_bytes};
 ghost use Rattle.commands.specs.Commands.{plain_file};
 ghost use Rattle.commands.specs.Outcomes.{exit_number};
-ghost use Rattle.document_head.specs.Heads.{answer_word, command_word, fault_value, untyped_value, with_all, with_outcome, with_remarks, HasMember, HasText, IsTextMember};
+ghost use Rattle.document_head.specs.Heads.{answer_word, command_word, fault_value, first_word, untyped_value, with_all, with_outcome, with_remarks, HasMember, HasText, IsTextMember};
 ghost use Rattle.document_head.specs.Inputs.{AddsInputs, AreInputs, HasFacts, HasInputs, IsInput, facts_value};
 ghost use Rattle.document_head.specs.Notes.{AddsNotes, AreSentences, HasSentences, IsSentences, noted, texts_array};
 ghost use Rattle.serde_json.specs.Data.{Data, number, object, put, string, unsigned};
@@ -13,6 +13,7 @@ use crate::libraries::{InputFacts, input_facts, text_value};
 use crate::outcomes::{answer_word, fault_of, is_report, untyped_of};
 use crate::places::TypeFacts;
 use abi_base::NoMemory;
+use cli_args::line_given;
 use commands::{File, Input, Outcome};
 use explain::{notes_on, other_input_sentence};
 use serde_json::{Map, Value, put};
@@ -23,10 +24,10 @@ use std::rt::Files;
 const FORMAT: u64 = 1;
 
 // The bytes of the input that has a fault, or none.
-fn faulty_bytes<R: Files + AllocGlobal>(rt: &R, ending: &Ending<'_>) -> Vec<u8> {
+fn faulty_bytes<R: Files + AllocGlobal>(rt: &R, ending: &Ending<'_>) -> Result<Vec<u8>, NoMemory> {
     match ending.outcome {
         Outcome::Unreadable(which, _) => input_bytes(rt, ending, which),
-        _ => Vec::new(rt.alloc()),
+        _ => Ok(Vec::new(rt.alloc())),
     }
 }
 
@@ -55,7 +56,7 @@ fn sentences_of<R: Files + AllocGlobal>(
         text,
         ..
     } = *ending;
-    let bytes = faulty_bytes(rt, ending);
+    let bytes = faulty_bytes(rt, ending)?;
     let mut sentences = notes_on(rt.alloc(), outcome, files, &bytes, "reading failed")?;
     let other = other_input_sentence(rt.alloc(), files, text)?;
     push_other(&mut sentences, other)?;
@@ -184,8 +185,8 @@ fn text_of(alloc: Global, outcome: Outcome, text: &[u8]) -> Result<Value, AllocE
 }
 
 // The first argument, and the empty text if there is none.
-fn command_of<'e>(words: &[&'e str]) -> &'e str
-    ensures { result.now ≡ command_word (map (λ word. word.now) words.now) }
+fn first_of<'e>(words: &[&'e str]) -> &'e str
+    ensures { result.now ≡ first_word (map (λ word. word.now) words.now) }
 {
     match words.first() {
         Some(word) => *word,
@@ -193,23 +194,35 @@ fn command_of<'e>(words: &[&'e str]) -> &'e str
     }
 }
 
+// The word that stands where a command does, or the first argument if the arguments are no line.
+fn command_of<'e>(alloc: Global, words: &'e [&'e str]) -> Result<&'e str, NoMemory>
+    ensures { IfOk result (λ word. word.now ≡ command_word (map (λ word. word.now) words.entry.now)) }
+{
+    let first = first_of(words);
+    let Some(line) = line_given(alloc, words)? else {
+        return Ok(first);
+    };
+    Ok(line.command.unwrap_or(first))
+}
+
 // Adds the format of the document, the command and how it ended.
 fn put_outcome(
     alloc: Global,
     head: &mut Map<String, Value>,
     ending: &Ending<'_>,
-) -> Result<(), AllocError>
+) -> Result<(), NoMemory>
     ensures { let command = command_word (map (λ word. word.now) ending.now.words.now) in
         OnOk result (members_view head.new.entries
         ≡ with_outcome command ending.now.outcome (members_view head.old.entries)) }
 {
-    let command = command_of(ending.words);
+    let command = command_of(alloc, ending.words)?;
     let answer = answer_word(ending.outcome);
     let status = u64::from(ending.outcome.number());
     put(head, alloc, "format", Value::from(FORMAT))?;
     put(head, alloc, "command", Value::try_from_str(alloc, command)?)?;
     put(head, alloc, "answer", Value::try_from_str(alloc, answer)?)?;
-    put(head, alloc, "status", Value::from(status))
+    put(head, alloc, "status", Value::from(status))?;
+    Ok(())
 }
 
 // Adds the fault of an input, and the number of exports without a type.
@@ -280,7 +293,7 @@ fn with_ending(
     others: Map<String, Value>,
     ending: &Ending<'_>,
     text: Value,
-) -> Result<Value, AllocError>
+) -> Result<Value, NoMemory>
     ensures { let command = command_word (map (λ word. word.now) ending.now.words.now) in
         IfOk result (λ head. view head
         ≡ object (with_all command ending.now.outcome (view text) (members_view others.entries))) }
@@ -293,7 +306,7 @@ fn with_ending(
 }
 
 /// All members except the breaks, given the array of the breaks as a text, and the notes on differences that no rule judges: the
-/// format of the document, the first argument, the answer in a word, the exit number, the fault of an input, the numbers of exports
+/// format of the document, the command's word, the answer in a word, the exit number, the fault of an input, the numbers of exports
 /// without a type, the text that `abi` prints, the sentences beside the answer, and an object for each input. The inputs are read
 /// again for it, and no clause says that they give the bytes that the answer is about, or what the facts about types are.
 pub fn head_of<R: Files + AllocGlobal>(

@@ -210,7 +210,7 @@ pub(crate) fn input_facts<R: Files + AllocGlobal>(
 ) -> Result<InputFacts, NoMemory>
     ensures { IfOk result (λ facts. IsInput with_digests (plain_file file.entry) (view facts.input)) }
 {
-    match bytes_of(rt, file.name) {
+    match bytes_of(rt, file.name)? {
         Some(bytes) => facts_in(rt.alloc(), file, &bytes, breaks, with_digests),
         None => unread_facts(rt.alloc(), file),
     }

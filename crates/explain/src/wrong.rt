@@ -7,7 +7,7 @@ ghost use Rattle.explain.specs.Sentences.{SaysUnknown, SaysWrong, encoding_words
 
 use crate::lines::{is_one, said};
 use abi_base::NoMemory;
-use cli_args::commands::COMMANDS;
+use cli_args::commands::IN_SENTENCES;
 use cli_args::{OptionName, WrongWords};
 use std::alloc::{AllocError, Global};
 use strsim::generic_levenshtein;
@@ -36,8 +36,8 @@ const UNKNOWN_OPTION: &str = "it is no option; the options are --rules FILE and 
 fn command_name(index: usize) -> Option<&'static str>
     ensures { option_map (λ name. name.now) result ≡ slice_get command_names index }
 {
-    match COMMANDS.get(index) {
-        Some((name, _)) => Some(*name),
+    match IN_SENTENCES.get(index) {
+        Some(row) => Some(row.word),
         None => None,
     }
 }
@@ -51,7 +51,7 @@ fn near_command(alloc: Global, word: &str) -> Result<Option<&'static str>, Alloc
     if word.len() > LONGEST {
         return Ok(None);
     }
-    for index in 0..COMMANDS.len() {
+    for index in 0..IN_SENTENCES.len() {
         if let Some(name) = command_name(index) {
             let edits = generic_levenshtein(alloc, word.as_bytes(), name.as_bytes())?;
             if edits < least {
@@ -68,8 +68,8 @@ fn near_command(alloc: Global, word: &str) -> Result<Option<&'static str>, Alloc
 fn command_words(index: usize) -> &'static str
     ensures { result.now ≡ slice_index_or (map arguments_of command_names) index (codes "other words") }
 {
-    match COMMANDS.get(index) {
-        Some((_, words)) => *words,
+    match IN_SENTENCES.get(index) {
+        Some(row) => row.arguments,
         None => OTHER_WORDS,
     }
 }
@@ -88,7 +88,7 @@ fn is_command(index: usize, word: &str) -> bool
 fn words_behind(command: &str) -> &'static str
     ensures { result.now ≡ arguments_of command.now }
 {
-    for index in 0..COMMANDS.len() {
+    for index in 0..IN_SENTENCES.len() {
         if is_command(index, command) {
             return command_words(index);
         }

@@ -1,5 +1,5 @@
 -- A readable file has no two exports of one name and one version.
-use Rattle.std.proofs.Common.{◌≡◌, ℕ, List, [], ◌∷◌, map, length, Option, None, Some, refl, ap}
+use Rattle.std.proofs.Common.{◌≡◌, ℕ, List, [], ◌∷◌, map, length, Option, None, refl, ap}
 use Rattle.elf.proofs.lemmas.Faults.{none_both}
 use Rattle.abi_base.specs.declared.fault.Fault.{Fault}
 use Rattle.abi_base.specs.Outcome.{first}

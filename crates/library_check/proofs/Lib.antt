@@ -6,6 +6,7 @@ mod Marked
 mod RelationLemmas
 mod RemarkLemmas
 mod Settled
+mod StopLemmas
 mod Texts
 mod Verdicts
 mod VoiceLemmas

@@ -1,19 +1,17 @@
--- A limit that one input passes, or one step of a command, is one that the command's inputs pass.
-use Rattle.std.proofs.Common.{◌≡◌, ◌<◌, ℕ, Bool, List, [], length, refl, sym, subst, inl, inr}
+-- A limit that one step of a command passes is one that the command's inputs pass.
+use Rattle.std.proofs.Common.{◌≡◌, ◌<◌, ℕ, List, [], length, refl, sym, subst, inl, inr}
 use Rattle.abi_base.specs.declared.fault.NoMemory.{NoMemory}
 use Rattle.abi_base.specs.declared.fault.NoMemory.TheVariants.{Past}
-use Rattle.abi_base.specs.declared.limit.Limit.{Limit}
 use Rattle.abi_base.specs.declared.limit.Limit.TheVariants.{Certificate, ComposedLines, PairParts}
 use Rattle.abi_base.specs.Outcome.{OnLimit}
 use Rattle.abi_base.proofs.lemmas.Outcomes.{on_limit_weaker}
 use Rattle.abi_types.specs.Libraries.{PlainLibrary}
 use Rattle.abi_types.specs.declared.library.Marks.{Marks}
 use Rattle.app_check.specs.Imports.{PlainImport, imports_of}
-use Rattle.app_check.specs.Imports as imports
 use Rattle.app_check.specs.Used.{narrowed_marks}
-use Rattle.cert_check.specs.Compatible.{Sides, sides}
+use Rattle.cert_check.specs.Compatible.{sides}
 use Rattle.cert_check.specs.Fitting.{lines_allowed, lines_weight}
-use Rattle.cert_compose.specs.Chains.{PlainChain, joint}
+use Rattle.cert_compose.specs.Chains.{joint}
 use Rattle.cert_compose.specs.Composed.{IsComposed}
 use Rattle.cert_compose.specs.Limits.{CompositionPasses, OnRefusal}
 use Rattle.cert_compose.specs.declared.refusal.ComposeRefusal.{ComposeRefusal}
@@ -21,45 +19,15 @@ use Rattle.cert_compose.specs.declared.refusal.ComposeRefusal.TheVariants as com
 use Rattle.cert_text.specs.Certs.{PairLine, PlainCert, PlainCert1, migrated}
 use Rattle.cert_text.specs.Grammar.{IsSpelled, IsSpelled1}
 use Rattle.library_read.specs.Libraries.{library_of}
-use Rattle.library_read.specs.Limits.{LibraryPasses}
 use Rattle.pair_compare.specs.Limits.{ComparisonPasses}
-use Rattle.suppression_text.specs.Classes.{PassesClasses}
 use Rattle.suppression_text.specs.Rules.{PlainRules, rules_of}
 use Rattle.suppressions.specs.Limits.{MarksPass}
 use Rattle.suppressions.specs.Marks.{marks_of}
 use Rattle.library_check.specs.Applications.{sides_used, used_by}
 use Rattle.library_check.specs.Compositions.{AreAccepted, PlainFiles}
-use Rattle.library_check.specs.declared.applying.NotJudged.{NotJudged}
-use Rattle.library_check.specs.declared.applying.NotJudged.TheVariants as not_judged
-use Rattle.library_check.specs.declared.checking.Unchecked.{Unchecked}
-use Rattle.library_check.specs.declared.checking.Unchecked.TheVariants as unchecked
-use Rattle.library_check.specs.declared.composing.Uncomposed.{Uncomposed}
-use Rattle.library_check.specs.declared.composing.Uncomposed.TheVariants as uncomposed
 use Rattle.library_check.specs.Judgements.{ruled}
 use Rattle.library_check.specs.trial.Trials.{new_library, old_library}
-use Rattle.library_check.specs.declared.verifying.Unverified.{Unverified}
-use Rattle.library_check.specs.declared.verifying.Unverified.TheVariants as unverified
-use Rattle.library_check.specs.Limits.{AppPasses, ChainPasses, CheckPasses, ComposePasses, InputsPass, JoinPasses, JudgementPasses, LibrariesPass, LinesPass, MigratePasses, OnNotJudged, OnUnchecked, OnUncomposed, OnUnverified, PairPasses, SecondPasses, SettlementPasses, TextPasses, TrialPasses, UsedPass, VerifyPasses, WritingPasses}
-
-on_unchecked_weaker : (u : Unchecked) (P Q : Limit → Type 0) → ((l : Limit) → P l → Q l) → OnUnchecked u P → OnUnchecked u Q
-on_unchecked_weaker (unchecked.NoMemory cause) P Q weaker h = on_limit_weaker cause P Q weaker h
-on_unchecked_weaker (unchecked.Old fault) P Q weaker h = h
-on_unchecked_weaker (unchecked.New fault) P Q weaker h = h
-on_unchecked_weaker (unchecked.Rules fault) P Q weaker h = h
-
--- ---- reading
-
-pub old_passes : (old new : List ℕ) (u : Unchecked) → OnUnchecked u (LibraryPasses old) → OnUnchecked u (PairPasses old new)
-old_passes old new u h = on_unchecked_weaker u (LibraryPasses old) (PairPasses old new) (λ l p. inl p) h
-
-pub new_passes : (old new : List ℕ) (u : Unchecked) → OnUnchecked u (LibraryPasses new) → OnUnchecked u (PairPasses old new)
-new_passes old new u h = on_unchecked_weaker u (LibraryPasses new) (PairPasses old new) (λ l p. inr p) h
-
-pub pair_passes : (old new rules : List ℕ) (u : Unchecked) → OnUnchecked u (PairPasses old new) → OnUnchecked u (InputsPass old new rules)
-pair_passes old new rules u h = on_unchecked_weaker u (PairPasses old new) (InputsPass old new rules) (λ l p. inl p) h
-
-pub rules_pass : (old new rules : List ℕ) (u : Unchecked) → OnUnchecked u (PassesClasses rules) → OnUnchecked u (InputsPass old new rules)
-rules_pass old new rules u h = on_unchecked_weaker u (PassesClasses rules) (InputsPass old new rules) (λ l p. inr p) h
+use Rattle.library_check.specs.Limits.{AppPasses, ChainPasses, CheckPasses, ComposePasses, JoinPasses, JudgementPasses, MigratePasses, SecondPasses, SettlementPasses, TrialPasses, UsedPass, VerifyPasses, WritingPasses}
 
 -- ---- judging
 
@@ -74,9 +42,6 @@ comparison_passes old new rules marks e is h =
 
 -- ---- checking
 
-pub inputs_pass : (old new rules : List ℕ) (u : Unchecked) → OnUnchecked u (InputsPass old new rules) → OnUnchecked u (CheckPasses old new rules)
-inputs_pass old new rules u h = on_unchecked_weaker u (InputsPass old new rules) (CheckPasses old new rules) (λ l p. inl p) h
-
 pub judgement_passes : (old new rules : List ℕ) (old_library new_library : PlainLibrary) (read : PlainRules) (e : NoMemory)
     → old_library ≡ library_of old → new_library ≡ library_of new → read ≡ rules_of rules → OnLimit e (JudgementPasses old_library new_library read) → OnLimit e (CheckPasses old new rules)
 judgement_passes old new rules old_library new_library read e old_is new_is rules_is h =
@@ -87,13 +52,6 @@ judgement_passes old new rules old_library new_library read e old_is new_is rule
 
 -- ---- verifying
 
-on_unverified_weaker : (u : Unverified) (P Q : Limit → Type 0) → ((l : Limit) → P l → Q l) → OnUnverified u P → OnUnverified u Q
-on_unverified_weaker (unverified.NoMemory cause) P Q weaker h = on_limit_weaker cause P Q weaker h
-on_unverified_weaker (unverified.Old fault) P Q weaker h = h
-on_unverified_weaker (unverified.New fault) P Q weaker h = h
-on_unverified_weaker (unverified.Rules fault) P Q weaker h = h
-on_unverified_weaker (unverified.Certificate fault) P Q weaker h = h
-
 pub marks_settle : (old new : PlainLibrary) (rules : PlainRules) (cert : PlainCert) (e : NoMemory) → OnLimit e (MarksPass rules old) → OnLimit e (SettlementPasses old new rules cert)
 marks_settle old new rules cert e h = on_limit_weaker e (MarksPass rules old) (SettlementPasses old new rules cert) (λ l p. inl p) h
 
@@ -103,12 +61,6 @@ lines_settle old new rules cert marks e is named above =
     let more = subst (λ (m : Marks). lines_allowed (sides old new m) < lines_weight (sides old new m) cert.pairs) is above in
     let passed : SettlementPasses old new rules cert PairParts = inr (refl, more) in
     subst (λ (x : NoMemory). OnLimit x (SettlementPasses old new rules cert)) (sym named) passed
-
-pub inputs_verify : (old new rules certificate : List ℕ) (u : Unverified) → OnUnverified u (InputsPass old new rules) → OnUnverified u (VerifyPasses old new rules certificate)
-inputs_verify old new rules certificate u h = on_unverified_weaker u (InputsPass old new rules) (VerifyPasses old new rules certificate) (λ l p. inl p) h
-
-pub nothing_verifies : (old new rules certificate : List ℕ) (u : Unverified) → OnUnverified u (λ l. ⊥) → OnUnverified u (VerifyPasses old new rules certificate)
-nothing_verifies old new rules certificate u h = on_unverified_weaker u (λ l. ⊥) (VerifyPasses old new rules certificate) (λ l p. absurd p) h
 
 pub settlement_verifies : (old new rules certificate : List ℕ) (old_library new_library : PlainLibrary) (read : PlainRules) (cert : PlainCert) (e : NoMemory)
     → old_library ≡ library_of old → new_library ≡ library_of new → read ≡ rules_of rules → IsSpelled certificate cert → OnLimit e (SettlementPasses old_library new_library read cert)
@@ -121,13 +73,6 @@ settlement_verifies old new rules certificate old_library new_library read cert 
 
 -- ---- applying
 
-on_not_judged_weaker : (u : NotJudged) (P Q : Limit → Type 0) → ((l : Limit) → P l → Q l) → OnNotJudged u P → OnNotJudged u Q
-on_not_judged_weaker (not_judged.NoMemory cause) P Q weaker h = on_limit_weaker cause P Q weaker h
-on_not_judged_weaker (not_judged.App fault) P Q weaker h = h
-on_not_judged_weaker (not_judged.Old fault) P Q weaker h = h
-on_not_judged_weaker (not_judged.New fault) P Q weaker h = h
-on_not_judged_weaker (not_judged.Rules fault) P Q weaker h = h
-
 pub marks_used : (imports : List PlainImport) (old new : PlainLibrary) (rules : PlainRules) (e : NoMemory) → OnLimit e (MarksPass rules old) → OnLimit e (UsedPass imports old new rules)
 marks_used imports old new rules e h = on_limit_weaker e (MarksPass rules old) (UsedPass imports old new rules) (λ l p. inl p) h
 
@@ -136,12 +81,6 @@ pub comparison_used : (imports : List PlainImport) (old new : PlainLibrary) (rul
 comparison_used imports old new rules marks e is h =
     on_limit_weaker e (ComparisonPasses (sides_used imports old new rules)) (UsedPass imports old new rules) (λ l p. inr p)
     (subst (λ (m : Marks). OnLimit e (ComparisonPasses (sides old new m))) is h)
-
-pub imports_pass : (app old new rules : List ℕ) (u : NotJudged) → OnNotJudged u (imports.AppPasses app) → OnNotJudged u (AppPasses app old new rules)
-imports_pass app old new rules u h = on_not_judged_weaker u (imports.AppPasses app) (AppPasses app old new rules) (λ l p. inl p) h
-
-pub inputs_pass_for : (app old new rules : List ℕ) (u : NotJudged) → OnNotJudged u (InputsPass old new rules) → OnNotJudged u (AppPasses app old new rules)
-inputs_pass_for app old new rules u h = on_not_judged_weaker u (InputsPass old new rules) (AppPasses app old new rules) (λ l p. inr (inl p)) h
 
 pub used_pass : (app old new rules : List ℕ) (imports : List PlainImport) (old_library new_library : PlainLibrary) (read : PlainRules) (e : NoMemory)
     → imports ≡ imports_of app → old_library ≡ library_of old → new_library ≡ library_of new → read ≡ rules_of rules → OnLimit e (UsedPass imports old_library new_library read)
@@ -159,12 +98,6 @@ used_pass app old new rules imports old_library new_library read e imports_are o
 pub settlement_of : (old new : PlainLibrary) (rules : PlainRules) (cert made : PlainCert) (e : NoMemory) → cert ≡ made → OnLimit e (SettlementPasses old new rules cert) → OnLimit e (SettlementPasses old new rules made)
 settlement_of old new rules cert made e is h = subst (λ (c : PlainCert). OnLimit e (SettlementPasses old new rules c)) is h
 
-pub inputs_migrate : (old new rules certificate : List ℕ) (u : Unverified) → OnUnverified u (InputsPass old new rules) → OnUnverified u (MigratePasses old new rules certificate)
-inputs_migrate old new rules certificate u h = on_unverified_weaker u (InputsPass old new rules) (MigratePasses old new rules certificate) (λ l p. inl p) h
-
-pub nothing_migrates : (old new rules certificate : List ℕ) (u : Unverified) → OnUnverified u (λ l. ⊥) → OnUnverified u (MigratePasses old new rules certificate)
-nothing_migrates old new rules certificate u h = on_unverified_weaker u (λ l. ⊥) (MigratePasses old new rules certificate) (λ l p. absurd p) h
-
 pub settlement_migrates : (old new rules certificate : List ℕ) (old_library new_library : PlainLibrary) (read : PlainRules) (cert : PlainCert1) (e : NoMemory)
     → old_library ≡ library_of old → new_library ≡ library_of new → read ≡ rules_of rules → IsSpelled1 certificate cert → OnLimit e (SettlementPasses old_library new_library read (migrated cert))
     → OnLimit e (MigratePasses old new rules certificate)
@@ -173,29 +106,6 @@ settlement_migrates old new rules certificate old_library new_library read cert 
     let two = subst (λ (l : PlainLibrary). OnLimit e (SettlementPasses (library_of old) l read (migrated cert))) new_is one in
     let three = subst (λ (r : PlainRules). OnLimit e (SettlementPasses (library_of old) (library_of new) r (migrated cert))) rules_is two in
     on_limit_weaker e (SettlementPasses (library_of old) (library_of new) (rules_of rules) (migrated cert)) (MigratePasses old new rules certificate) (λ l p. inr (cert, spelled, p)) three
-
--- ---- composing: three libraries
-
-on_uncomposed_weaker : (u : Uncomposed) (P Q : Limit → Type 0) → ((l : Limit) → P l → Q l) → OnUncomposed u P → OnUncomposed u Q
-on_uncomposed_weaker (uncomposed.NoMemory cause) P Q weaker h = on_limit_weaker cause P Q weaker h
-on_uncomposed_weaker (uncomposed.First fault) P Q weaker h = h
-on_uncomposed_weaker (uncomposed.Middle fault) P Q weaker h = h
-on_uncomposed_weaker (uncomposed.Last fault) P Q weaker h = h
-on_uncomposed_weaker (uncomposed.Certificate1 fault) P Q weaker h = h
-on_uncomposed_weaker (uncomposed.Certificate2 fault) P Q weaker h = h
-
-module _ (first middle last : List ℕ) where
-  pub first_passes : (u : Uncomposed) → OnUncomposed u (LibraryPasses first) → OnUncomposed u (LibrariesPass first middle last)
-  first_passes u h = on_uncomposed_weaker u (LibraryPasses first) (LibrariesPass first middle last) (λ l x. inl x) h
-
-  pub middle_passes : (u : Uncomposed) → OnUncomposed u (LibraryPasses middle) → OnUncomposed u (LibrariesPass first middle last)
-  middle_passes u h = on_uncomposed_weaker u (LibraryPasses middle) (LibrariesPass first middle last) (λ l x. inr (inl x)) h
-
-  pub last_passes : (u : Uncomposed) → OnUncomposed u (LibraryPasses last) → OnUncomposed u (LibrariesPass first middle last)
-  last_passes u h = on_uncomposed_weaker u (LibraryPasses last) (LibrariesPass first middle last) (λ l x. inr (inr x)) h
-
-  pub copy_passes : (e : NoMemory) → OnLimit e (LibraryPasses middle) → OnLimit e (LibrariesPass first middle last)
-  copy_passes e h = on_limit_weaker e (LibraryPasses middle) (LibrariesPass first middle last) (λ l x. inr (inl x)) h
 
 -- ---- composing: two certificates
 
@@ -241,12 +151,6 @@ abbrev files_of : List ℕ → List ℕ → List ℕ → List ℕ → List ℕ �
 files_of first middle last certificate1 certificate2 = record { first = first; middle = middle; last = last; certificate1 = certificate1; certificate2 = certificate2 }
 
 module _ (first middle last certificate1 certificate2 : List ℕ) where
-  pub libraries_compose : (u : Uncomposed) → OnUncomposed u (LibrariesPass first middle last) → OnUncomposed u (ComposePasses (files_of first middle last certificate1 certificate2))
-  libraries_compose u h = on_uncomposed_weaker u (LibrariesPass first middle last) (ComposePasses (files_of first middle last certificate1 certificate2)) (λ l x. inl x) h
-
-  pub nothing_composes : (u : Uncomposed) → OnUncomposed u (λ l. ⊥) → OnUncomposed u (ComposePasses (files_of first middle last certificate1 certificate2))
-  nothing_composes u h = on_uncomposed_weaker u (λ l. ⊥) (ComposePasses (files_of first middle last certificate1 certificate2)) (λ l x. absurd x) h
-
   pub chain_composes : (one_library between other_library : PlainLibrary) (one other : PlainCert) (e : NoMemory)
       → one_library ≡ library_of first → between ≡ library_of middle → other_library ≡ library_of last → IsSpelled certificate1 one → IsSpelled certificate2 other
       → OnLimit e (ChainPasses (joint one_library between other_library one other)) → OnLimit e (ComposePasses (files_of first middle last certificate1 certificate2))
@@ -265,9 +169,3 @@ judgement_by old new rules read e is h = subst (λ (r : PlainRules). OnLimit e (
 pub judgement_tries : (n : ℕ) (old new : PlainLibrary) (e : NoMemory) → old ≡ library_of (old_library n) → new ≡ library_of (new_library n)
     → OnLimit e (JudgementPasses old new (rules_of [])) → OnLimit e (TrialPasses n)
 judgement_tries n old new e old_is new_is h = judgement_passes (old_library n) (new_library n) [] old new (rules_of []) e old_is new_is refl h
-
-pub pair_tries : (n : ℕ) (old new : List ℕ) (u : Unchecked) → old ≡ old_library n → new ≡ new_library n → OnUnchecked u (PairPasses old new) → OnUnchecked u (TrialPasses n)
-pair_tries n old new u old_is new_is h =
-    let one = subst (λ (bytes : List ℕ). OnUnchecked u (PairPasses bytes new)) old_is h in
-    let two = subst (λ (bytes : List ℕ). OnUnchecked u (PairPasses (old_library n) bytes)) new_is one in
-    on_unchecked_weaker u (PairPasses (old_library n) (new_library n)) (TrialPasses n) (λ l p. inl (inl p)) two

@@ -1,19 +1,16 @@
 -- What is said of the text of a certificate is one thing.
-use Rattle.std.proofs.Common.{◌≡◌, ℕ, List, [], ◌∷◌, ◌++◌, Option, Some, None, refl, sym, ◌∙◌, ap, subst}
+use Rattle.std.proofs.Common.{◌≡◌, ℕ, List, [], ◌∷◌, ◌++◌, refl, sym, ◌∙◌, ap, subst}
 use Rattle.std.specs.List.{AllByRecursion}
-use Rattle.abi_base.specs.declared.fault.Fault.{Fault}
 use Rattle.cert_check.specs.Accepted.{Case, Place, Keeps, IsAccepted, IsFirstFailing, places, refused}
 use Rattle.cert_check.specs.Compatible.{Sides}
 use Rattle.cert_check.specs.declared.refused.Refused.{Refused}
 use Rattle.cert_text.specs.Certs.{PlainCert}
 use Rattle.cert_text.specs.Grammar.{IsSpelled}
-use Rattle.library_check.specs.declared.verifying.Unverified.{Unverified}
-use Rattle.library_check.specs.declared.verifying.Unverified.TheVariants as unverified
 use Rattle.library_check.specs.declared.verifying.Verified.{Verified}
 use Rattle.library_check.specs.declared.verifying.Verified.TheVariants as verified
-use Rattle.library_check.specs.Checks.{AreReadable, sides_of}
+use Rattle.library_check.specs.Checks.{sides_of}
 use Rattle.library_check.specs.Judgements.{IsCertificate}
-use Rattle.library_check.specs.Verifications.{IsAcceptance, IsFirstRefusal, IsOutOfMemory, IsRejection, IsUnverified, IsVerified, case_for, certificate_fault}
+use Rattle.library_check.specs.Verifications.{IsAcceptance, IsFirstRefusal, IsRejection, IsVerified, case_for}
 
 -- a text is that of at most one certificate
 abbrev pub AreOneCertificate : Type 0
@@ -63,14 +60,3 @@ module _ (one_text : AreOneCertificate) where
 
 pub accepted : (s : Sides) (text : List ℕ) → IsCertificate s text → IsAcceptance s text
 accepted s text is = record { cert = is.cert; spelled = is.spelled; accepted = is.proved.accepted }
-
-no_fault : (o : Option Fault) (fault : Fault) → o ≡ None → o ≡ Some fault → ⊥
-no_fault o fault none some = let bad : None ≡ Some fault = sym none ∙ some in cc
-
--- where all inputs are readable, and the certificate too, only memory can be lacking
-pub only_memory : (old new rules text : List ℕ) (said : Unverified) → AreReadable old new rules → certificate_fault text ≡ None → IsUnverified old new rules text said → IsOutOfMemory said
-only_memory old new rules text (unverified.NoMemory cause) readable none is = tt
-only_memory old new rules text (unverified.Old fault) readable none is = absurd (no_fault _ fault readable.old_readable is)
-only_memory old new rules text (unverified.New fault) readable none is = absurd (no_fault _ fault readable.new_readable is.1)
-only_memory old new rules text (unverified.Rules fault) readable none is = absurd (no_fault _ fault readable.rules_readable is.2)
-only_memory old new rules text (unverified.Certificate fault) readable none is = absurd (no_fault _ fault none is.1)

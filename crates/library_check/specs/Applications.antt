@@ -1,28 +1,23 @@
 -- What `app` promises: when a new library may replace an old one for one application, given their bytes and those of a rule file,
 -- and the text that shows it.
-use Rattle.std.specs.Prelude.{◌≡◌, ◌↔◌, ℕ, Bool, List, [], ◌∷◌, ◌++◌, Option, Some, None, Contains, map, codes, if◌then◌else◌}
+use Rattle.std.specs.Prelude.{◌≡◌, ◌↔◌, ℕ, Bool, List, [], ◌∷◌, ◌++◌, Option, Contains, map, codes, if◌then◌else◌}
 use Rattle.std.specs.List.{concat}
 use Rattle.abi_types.specs.Exports.{PlainExport}
 use Rattle.abi_types.specs.Libraries.{PlainLibrary}
 use Rattle.abi_types.specs.Shown.{label}
 use Rattle.elf_needs.specs.Needs.{PlainNeed}
-use Rattle.app_check.specs.Imports.{PlainImport, app_fault, imports_of}
+use Rattle.app_check.specs.Imports.{PlainImport, imports_of}
 use Rattle.app_check.specs.Used.{narrowed_marks, used_exports}
 use Rattle.accesses.specs.LeafPlaces.{LeavesStay}
 use Rattle.report.specs.Listening.{Voice}
 use Rattle.report.specs.Render.{newline}
 use Rattle.cert_check.specs.Agreed.{IsAgreed}
 use Rattle.cert_check.specs.Compatible.{Sides, sides, IsCompatible, task_of}
-use Rattle.library_read.specs.Faults.{library_fault}
 use Rattle.library_read.specs.Libraries.{library_of}
-use Rattle.suppression_text.specs.Faults.{rule_fault}
 use Rattle.suppression_text.specs.Rules.{PlainRules, rules_of}
 use Rattle.suppressions.specs.Marks.{marks_of}
 use Rattle.library_check.specs.declared.applying.AppJudged.{AppJudged}
 use Rattle.library_check.specs.declared.applying.AppJudged.TheVariants.{Yes, No}
-use Rattle.library_check.specs.declared.applying.NotJudged.{NotJudged}
-use Rattle.library_check.specs.declared.applying.NotJudged.TheVariants as not_judged
-use Rattle.library_check.specs.Checks.{AreReadable}
 use Rattle.library_check.specs.Judgements.{IsRefusal}
 
 -- ---- libraries after they are read
@@ -104,18 +99,3 @@ name_and_need i = (i.name, i.need)
 -- the imports of two applications require the same
 abbrev pub ImportTheSame : List ℕ → List ℕ → Type 0
 ImportTheSame app other = (wanted : List ℕ × Option PlainNeed) → Contains (map name_and_need (imports_of app)) wanted ↔ Contains (map name_and_need (imports_of other)) wanted
-
--- ---- faults
-
--- the application, both libraries and the rule file are readable
-pub record AreReadableFor (app old new rules : List ℕ) : Type 0 where
-  pub app_readable : app_fault app ≡ None
-  pub inputs : AreReadable old new rules
-
--- why `app` gives no verdict: the first fault of the first input that has one, in the order app, old, new, rules
-abbrev pub IsNotJudged : List ℕ → List ℕ → List ℕ → List ℕ → NotJudged → Type 0
-IsNotJudged app old new rules (not_judged.NoMemory cause) = Unit {0}
-IsNotJudged app old new rules (not_judged.App fault) = app_fault app ≡ Some fault
-IsNotJudged app old new rules (not_judged.Old fault) = (app_fault app ≡ None) × (library_fault old ≡ Some fault)
-IsNotJudged app old new rules (not_judged.New fault) = (app_fault app ≡ None) × (library_fault old ≡ None) × (library_fault new ≡ Some fault)
-IsNotJudged app old new rules (not_judged.Rules fault) = (app_fault app ≡ None) × (library_fault old ≡ None) × (library_fault new ≡ None) × (rule_fault rules ≡ Some fault)

@@ -1,17 +1,13 @@
 -- What `check` promises: when a new library may replace an old one, given their bytes and those of a rule file, and the text that
 -- shows it.
-use Rattle.std.specs.Prelude.{◌≡◌, ℕ, List, Some, None}
+use Rattle.std.specs.Prelude.{ℕ, List}
 use Rattle.accesses.specs.LeafPlaces.{LeavesStay}
 use Rattle.report.specs.Listening.{Voice}
 use Rattle.cert_check.specs.Agreed.{IsAgreed}
 use Rattle.cert_check.specs.Compatible.{Sides, IsCompatible, task_of}
-use Rattle.library_read.specs.Faults.{library_fault}
 use Rattle.library_read.specs.Libraries.{library_of}
-use Rattle.suppression_text.specs.Faults.{rule_fault}
 use Rattle.suppression_text.specs.Rules.{rules_of}
 use Rattle.library_check.specs.declared.judging.Checked.{Checked}
-use Rattle.library_check.specs.declared.checking.Unchecked.{Unchecked}
-use Rattle.library_check.specs.declared.checking.Unchecked.TheVariants as unchecked
 use Rattle.library_check.specs.Judgements.{ruled, IsCertificate, IsJudged, IsRefusal}
 
 -- the libraries in two files, and what the rule file suppresses in the old one
@@ -46,21 +42,3 @@ IsReportText voices old new rules text = IsRefusal voices (sides_of old new rule
 -- the old one, else no with the report
 abbrev pub IsChecked : List Voice → List ℕ → List ℕ → List ℕ → Checked → Type 0
 IsChecked voices old new rules checked = IsJudged voices (library_of old) (library_of new) (rules_of rules) checked
-
--- both libraries and the rule file are readable
-pub record AreReadable (old new rules : List ℕ) : Type 0 where
-  pub old_readable : library_fault old ≡ None
-  pub new_readable : library_fault new ≡ None
-  pub rules_readable : rule_fault rules ≡ None
-
--- memory ran out, or a count would pass its limit
-abbrev pub IsOutOfMemory : Unchecked → Type 0
-IsOutOfMemory (unchecked.NoMemory cause) = Unit {0}
-IsOutOfMemory others = ⊥
-
--- why `check` gives no verdict: the first fault of the old library, else of the new one, else of the rule file
-abbrev pub IsUnchecked : List ℕ → List ℕ → List ℕ → Unchecked → Type 0
-IsUnchecked old new rules (unchecked.NoMemory cause) = Unit {0}
-IsUnchecked old new rules (unchecked.Old fault) = library_fault old ≡ Some fault
-IsUnchecked old new rules (unchecked.New fault) = (library_fault old ≡ None) × (library_fault new ≡ Some fault)
-IsUnchecked old new rules (unchecked.Rules fault) = (library_fault old ≡ None) × (library_fault new ≡ None) × (rule_fault rules ≡ Some fault)

@@ -1,6 +1,6 @@
 -- What `compose` promises, given the bytes of three libraries of a chain and of two certificates: the certificate that the two
 -- compose, or else which one is refused or what is lost.
-use Rattle.std.specs.Prelude.{◌≡◌, ◌≤◌, ℕ, List, [], length, Some, None}
+use Rattle.std.specs.Prelude.{◌≡◌, ◌≤◌, ℕ, List, [], ◌∷◌, length}
 use Rattle.abi_base.specs.Limits.{input_limit}
 use Rattle.cert_check.specs.declared.refused.Refused.{Refused}
 use Rattle.cert_check.specs.Accepted.{Case, IsAccepted}
@@ -11,17 +11,14 @@ use Rattle.cert_compose.specs.Composed.{IsComposed}
 use Rattle.cert_compose.specs.Refusals.{IsLost}
 use Rattle.cert_text.specs.Certs.{PlainCert}
 use Rattle.cert_text.specs.Grammar.{IsSpelled}
-use Rattle.library_read.specs.Faults.{library_fault}
 use Rattle.library_read.specs.Libraries.{library_of}
 use Rattle.suppression_text.specs.Rules.{rules_of}
 use Rattle.library_check.specs.declared.composing.ChainFiles.{ChainFiles}
 use Rattle.library_check.specs.declared.composing.Composed.{Composed}
 use Rattle.library_check.specs.declared.composing.Composed.TheVariants.{Yes, First, Second, Between}
-use Rattle.library_check.specs.declared.composing.Uncomposed.{Uncomposed}
-use Rattle.library_check.specs.declared.composing.Uncomposed.TheVariants as uncomposed
 use Rattle.library_check.specs.Checks.{Compatible}
 use Rattle.library_check.specs.Judgements.{ruled}
-use Rattle.library_check.specs.Verifications.{IsAcceptedText, IsFirstRefusal, IsRefusedText, case_for, certificate_fault}
+use Rattle.library_check.specs.Verifications.{IsAcceptedText, IsFirstRefusal, IsRefusedText, case_for}
 
 -- three libraries and two certificates, by their bytes
 pub record PlainFiles : Type 0 where
@@ -39,6 +36,10 @@ plain_files f = record {
   certificate1 = f.certificate1.now;
   certificate2 = f.certificate2.now;
 }
+
+-- their bytes, in order
+abbrev pub bytes_in_order : PlainFiles → List (List ℕ)
+bytes_in_order p = p.first ∷ p.middle ∷ p.last ∷ p.certificate1 ∷ p.certificate2 ∷ []
 
 -- ---- certificates for libraries after they are read
 
@@ -125,26 +126,3 @@ SameComposed (First refusal) (First another) = refusal ≡ another
 SameComposed (Second refusal) (Second another) = refusal ≡ another
 SameComposed (Between refusal) (Between another) = refusal ≡ another
 SameComposed one other = ⊥
-
--- ---- faults
-
--- the three libraries are readable
-pub record AreReadableLibraries (p : PlainFiles) : Type 0 where
-  pub first : library_fault p.first ≡ None
-  pub middle : library_fault p.middle ≡ None
-  pub last : library_fault p.last ≡ None
-
--- the libraries and both certificates are readable
-pub record AreComposable (p : PlainFiles) : Type 0 where
-  pub libraries : AreReadableLibraries p
-  pub certificate1 : certificate_fault p.certificate1 ≡ None
-  pub certificate2 : certificate_fault p.certificate2 ≡ None
-
--- why `compose` gives no verdict: the first fault of the first input that has one, in the order of the inputs
-abbrev pub IsUncomposed : PlainFiles → Uncomposed → Type 0
-IsUncomposed p (uncomposed.NoMemory cause) = Unit {0}
-IsUncomposed p (uncomposed.First fault) = library_fault p.first ≡ Some fault
-IsUncomposed p (uncomposed.Middle fault) = (library_fault p.first ≡ None) × (library_fault p.middle ≡ Some fault)
-IsUncomposed p (uncomposed.Last fault) = (library_fault p.first ≡ None) × (library_fault p.middle ≡ None) × (library_fault p.last ≡ Some fault)
-IsUncomposed p (uncomposed.Certificate1 fault) = AreReadableLibraries p × (certificate_fault p.certificate1 ≡ Some fault)
-IsUncomposed p (uncomposed.Certificate2 fault) = AreReadableLibraries p × (certificate_fault p.certificate1 ≡ None) × (certificate_fault p.certificate2 ≡ Some fault)

@@ -1,3 +1,4 @@
+pub mod Inputs
 pub mod Judgements
 pub mod Limits
 pub mod Checks
@@ -8,4 +9,5 @@ pub mod Verifications
 pub mod Relations
 pub mod Migrations
 pub mod Compositions
+pub mod Rows
 pub mod trial

@@ -1,9 +1,8 @@
 -- The limits that the inputs of the commands on two libraries, on certificates and on trials pass, from their bytes.
-use Rattle.std.specs.Prelude.{◌≡◌, ◌<◌, ◌⊎◌, ℕ, List, [], length}
+use Rattle.std.specs.Prelude.{◌≡◌, ◌<◌, ◌⊎◌, ℕ, List, [], ◌∷◌, length}
 use Rattle.abi_base.specs.Budgets.{allowed}
 use Rattle.abi_base.specs.declared.limit.Limit.{Limit}
 use Rattle.abi_base.specs.declared.limit.Limit.TheVariants.{Certificate, ComposedLines, PairParts}
-use Rattle.abi_base.specs.Outcome.{OnLimit}
 use Rattle.abi_types.specs.Libraries.{PlainLibrary}
 use Rattle.app_check.specs.Imports.{PlainImport, imports_of}
 use Rattle.app_check.specs.Imports as imports
@@ -21,30 +20,25 @@ use Rattle.suppression_text.specs.Classes.{PassesClasses}
 use Rattle.suppression_text.specs.Rules.{PlainRules, rules_of}
 use Rattle.suppressions.specs.Limits.{MarksPass}
 use Rattle.library_check.specs.Applications.{sides_used}
-use Rattle.library_check.specs.declared.applying.NotJudged.{NotJudged}
-use Rattle.library_check.specs.declared.applying.NotJudged.TheVariants as not_judged
-use Rattle.library_check.specs.declared.checking.Unchecked.{Unchecked}
-use Rattle.library_check.specs.declared.checking.Unchecked.TheVariants as unchecked
 use Rattle.library_check.specs.Compositions.{AreAccepted, PlainFiles, chain_with}
-use Rattle.library_check.specs.declared.composing.Uncomposed.{Uncomposed}
-use Rattle.library_check.specs.declared.composing.Uncomposed.TheVariants as uncomposed
-use Rattle.library_check.specs.declared.verifying.Unverified.{Unverified}
-use Rattle.library_check.specs.declared.verifying.Unverified.TheVariants as unverified
 use Rattle.library_check.specs.Judgements.{ruled}
 use Rattle.library_check.specs.trial.Trials.{new_library, old_library}
-
--- what holds of the limit, if there is no verdict since a count would pass one
-abbrev pub OnUnchecked : Unchecked → (Limit → Type 0) → Type 0
-OnUnchecked (unchecked.NoMemory cause) P = OnLimit cause P
-OnUnchecked others P = Unit {0}
 
 -- one of two libraries passes the limit where it is read
 abbrev pub PairPasses : List ℕ → List ℕ → Limit → Type 0
 PairPasses old new l = LibraryPasses old l ⊎ LibraryPasses new l
 
+abbrev pub pair_passes : List (List ℕ) → Limit → Type 0
+pair_passes (old ∷ new ∷ []) l = PairPasses old new l
+pair_passes all l = ⊥
+
 -- one of them does, or the rule file
 abbrev pub InputsPass : List ℕ → List ℕ → List ℕ → Limit → Type 0
 InputsPass old new rules l = PairPasses old new l ⊎ PassesClasses rules l
+
+abbrev pub inputs_pass : List (List ℕ) → Limit → Type 0
+inputs_pass (old ∷ new ∷ rules ∷ []) l = InputsPass old new rules l
+inputs_pass all l = ⊥
 
 -- The rule file passes the limit where it is applied to the old library, or the two libraries do where they are compared in all that it
 -- does not suppress.
@@ -56,11 +50,6 @@ abbrev pub CheckPasses : List ℕ → List ℕ → List ℕ → Limit → Type 0
 CheckPasses old new rules l = InputsPass old new rules l ⊎ JudgementPasses (library_of old) (library_of new) (rules_of rules) l
 
 -- ---- `verify`
-
--- what holds of the limit, if there is no verdict on a certificate since a count would pass one
-abbrev pub OnUnverified : Unverified → (Limit → Type 0) → Type 0
-OnUnverified (unverified.NoMemory cause) P = OnLimit cause P
-OnUnverified others P = Unit {0}
 
 -- The limit is that on parts of pairs of types: the types of the certificate's pair lines have more parts to compare than it allows.
 abbrev pub LinesPass : Sides → PlainCert → Limit → Type 0
@@ -79,11 +68,6 @@ abbrev pub VerifyPasses : List ℕ → List ℕ → List ℕ → List ℕ → Li
 VerifyPasses old new rules certificate l = InputsPass old new rules l ⊎ TextPasses (library_of old) (library_of new) (rules_of rules) certificate l
 
 -- ---- `app`
-
--- what holds of the limit, if there is no verdict for an application since a count would pass one
-abbrev pub OnNotJudged : NotJudged → (Limit → Type 0) → Type 0
-OnNotJudged (not_judged.NoMemory cause) P = OnLimit cause P
-OnNotJudged others P = Unit {0}
 
 -- The rule file passes the limit where it is applied to the old library, or the two libraries do where they are compared for these
 -- imports.
@@ -107,11 +91,6 @@ MigratePasses old new rules certificate l =
     InputsPass old new rules l ⊎ OldTextPasses (library_of old) (library_of new) (rules_of rules) certificate l
 
 -- ---- `compose`
-
--- what holds of the limit, if two certificates are not composed since a count would pass one
-abbrev pub OnUncomposed : Uncomposed → (Limit → Type 0) → Type 0
-OnUncomposed (uncomposed.NoMemory cause) P = OnLimit cause P
-OnUncomposed others P = Unit {0}
 
 -- the limit is that on the pair lines of a composed certificate, or that on its bytes, and this certificate has more
 abbrev pub WritingPasses : PlainCert → Limit → Type 0

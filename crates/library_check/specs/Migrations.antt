@@ -1,6 +1,6 @@
 -- What `migrate` promises: when a certificate of version 1 is migrated, given the bytes of two libraries, a rule file and the
 -- certificate, and else the first condition that the migrated certificate does not meet.
-use Rattle.std.specs.Prelude.{◌≡◌, ℕ, List, Option, Some, None}
+use Rattle.std.specs.Prelude.{◌≡◌, ℕ, List, Option}
 use Rattle.abi_base.specs.declared.fault.Fault.{Fault}
 use Rattle.cert_check.specs.declared.refused.Refused.{Refused}
 use Rattle.cert_check.specs.Accepted.{IsAccepted}
@@ -10,13 +10,9 @@ use Rattle.cert_text.specs.Certs.{PlainCert1, migrated}
 use Rattle.cert_text.specs.Faults.{fault_of}
 use Rattle.cert_text.specs.Grammar.{IsSpelled, IsSpelled1}
 use Rattle.cert_text.specs.declared.line.Version.TheVariants.{One}
-use Rattle.library_read.specs.Faults.{library_fault}
-use Rattle.suppression_text.specs.Faults.{rule_fault}
 use Rattle.library_check.specs.declared.migrating.Migrated.{Migrated}
 use Rattle.library_check.specs.declared.migrating.Migrated.TheVariants.{Done, Refused as Not}
-use Rattle.library_check.specs.declared.verifying.Unverified.{Unverified}
-use Rattle.library_check.specs.declared.verifying.Unverified.TheVariants as unverified
-use Rattle.library_check.specs.Checks.{AreReadable, Compatible, sides_of}
+use Rattle.library_check.specs.Checks.{Compatible, sides_of}
 use Rattle.library_check.specs.Verifications.{IsFirstRefusal}
 
 -- ---- one certificate
@@ -67,16 +63,3 @@ SameMigrated one other = ⊥
 -- the first fault of the text of a certificate of version 1
 abbrev pub old_certificate_fault : List ℕ → Option Fault
 old_certificate_fault certificate = fault_of One certificate
-
--- both libraries, the rule file and the certificate of version 1 are readable
-pub record AreMigratable (old new rules certificate : List ℕ) : Type 0 where
-  pub inputs : AreReadable old new rules
-  pub certificate_readable : old_certificate_fault certificate ≡ None
-
--- why `migrate` gives no verdict: the first fault of the first input that has one, in the order old, new, rules, certificate
-abbrev pub IsUnmigrated : List ℕ → List ℕ → List ℕ → List ℕ → Unverified → Type 0
-IsUnmigrated old new rules certificate (unverified.NoMemory cause) = Unit {0}
-IsUnmigrated old new rules certificate (unverified.Old fault) = library_fault old ≡ Some fault
-IsUnmigrated old new rules certificate (unverified.New fault) = (library_fault old ≡ None) × (library_fault new ≡ Some fault)
-IsUnmigrated old new rules certificate (unverified.Rules fault) = (library_fault old ≡ None) × (library_fault new ≡ None) × (rule_fault rules ≡ Some fault)
-IsUnmigrated old new rules certificate (unverified.Certificate fault) = AreReadable old new rules × (old_certificate_fault certificate ≡ Some fault)

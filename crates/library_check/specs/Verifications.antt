@@ -1,6 +1,6 @@
 -- What `verify` promises: when a certificate is accepted, given the bytes of two libraries, a rule file and the certificate, and
 -- else which condition fails first.
-use Rattle.std.specs.Prelude.{◌≡◌, ℕ, List, Option, Some, None}
+use Rattle.std.specs.Prelude.{◌≡◌, ℕ, List, Option}
 use Rattle.abi_base.specs.declared.fault.Fault.{Fault}
 use Rattle.cert_check.specs.declared.refused.Refused.{Refused}
 use Rattle.cert_check.specs.Accepted.{Case, Place, IsAccepted, IsFirstFailing, places, refused}
@@ -9,13 +9,9 @@ use Rattle.cert_text.specs.Certs.{PlainCert}
 use Rattle.cert_text.specs.Faults.{fault_of}
 use Rattle.cert_text.specs.Grammar.{IsSpelled}
 use Rattle.cert_text.specs.declared.line.Version.TheVariants.{Two}
-use Rattle.library_read.specs.Faults.{library_fault}
-use Rattle.suppression_text.specs.Faults.{rule_fault}
 use Rattle.library_check.specs.declared.verifying.Verified.{Verified}
 use Rattle.library_check.specs.declared.verifying.Verified.TheVariants as verified
-use Rattle.library_check.specs.declared.verifying.Unverified.{Unverified}
-use Rattle.library_check.specs.declared.verifying.Unverified.TheVariants as unverified
-use Rattle.library_check.specs.Checks.{AreReadable, Compatible, sides_of}
+use Rattle.library_check.specs.Checks.{Compatible, sides_of}
 
 -- ---- one certificate
 
@@ -67,21 +63,3 @@ IsVerified old new rules certificate (verified.Refused refusal) = IsRefusedText 
 -- the first fault of the text of a certificate
 abbrev pub certificate_fault : List ℕ → Option Fault
 certificate_fault certificate = fault_of Two certificate
-
--- both libraries, the rule file and the certificate are readable
-pub record AreVerifiable (old new rules certificate : List ℕ) : Type 0 where
-  pub inputs : AreReadable old new rules
-  pub certificate_readable : certificate_fault certificate ≡ None
-
--- memory ran out, or a count would pass its limit
-abbrev pub IsOutOfMemory : Unverified → Type 0
-IsOutOfMemory (unverified.NoMemory cause) = Unit {0}
-IsOutOfMemory others = ⊥
-
--- why `verify` gives no verdict: the first fault of the first input that has one, in the order old, new, rules, certificate
-abbrev pub IsUnverified : List ℕ → List ℕ → List ℕ → List ℕ → Unverified → Type 0
-IsUnverified old new rules certificate (unverified.NoMemory cause) = Unit {0}
-IsUnverified old new rules certificate (unverified.Old fault) = library_fault old ≡ Some fault
-IsUnverified old new rules certificate (unverified.New fault) = (library_fault old ≡ None) × (library_fault new ≡ Some fault)
-IsUnverified old new rules certificate (unverified.Rules fault) = (library_fault old ≡ None) × (library_fault new ≡ None) × (rule_fault rules ≡ Some fault)
-IsUnverified old new rules certificate (unverified.Certificate fault) = AreReadable old new rules × (certificate_fault certificate ≡ Some fault)

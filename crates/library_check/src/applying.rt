@@ -1,5 +1,5 @@
 // Whether a new library may replace an old one for one application, given their bytes and those of a rule file.
-ghost use Rattle.std.specs.Prelude.{◌≡◌, ◌≤◌, ◌++◌, ℕ, List, [], None, length, map, All, OnOk, IfOk, IfErr, string_bytes, if◌then◌else◌};
+ghost use Rattle.std.specs.Prelude.{◌≡◌, ◌≤◌, ◌++◌, [], ◌∷◌, None, length, map, All, OnOk, IfOk, IfErr, string_bytes, if◌then◌else◌};
 ghost use Rattle.abi_base.specs.declared.fault.NoMemory.TheVariants.{Allocation};
 ghost use Rattle.abi_base.specs.Limits.{input_limit};
 ghost use Rattle.abi_base.specs.Outcome.{OnLimit};
@@ -8,20 +8,23 @@ ghost use Rattle.app_check.specs.Imports.{AppPasses as ImportsPass, app_fault, i
 ghost use Rattle.app_check.specs.Plain.{plain_imports};
 ghost use Rattle.app_check.specs.Used.{narrowed_marks};
 ghost use Rattle.cert_check.specs.Compatible.{sides};
+ghost use Rattle.commands.specs.Faults.{AreReadable, StopsAt, StopsOn};
+ghost use Rattle.commands.specs.declared.input.Input.TheVariants as input;
 ghost use Rattle.pair_compare.specs.Marking.{AreMarksOf};
 ghost use Rattle.suppressions.specs.Limits.{MarksPass};
 ghost use Rattle.suppressions.specs.Marks.{marks_of};
-ghost use Rattle.library_check.specs.Applications.{AreReadableFor, IsAppJudged, IsNotJudged, IsSaidOfUsed, sides_used, use_line, use_lines, used_by, uses_text};
-ghost use Rattle.library_check.specs.Checks.{IsUnchecked};
-ghost use Rattle.library_check.specs.Limits.{AppPasses, InputsPass, OnNotJudged, OnUnchecked, UsedPass};
+ghost use Rattle.library_check.specs.Applications.{IsAppJudged, IsSaidOfUsed, sides_used, use_line, use_lines, used_by, uses_text};
+ghost use Rattle.library_check.specs.Limits.{UsedPass};
 ghost use Rattle.library_check.specs.Remarks.{remark_on};
+ghost use Rattle.library_check.specs.Rows.App.{app_asks, app_passes};
 
-use crate::checking::{Inputs, Unchecked, read_inputs};
+use crate::checking::{Inputs, read_inputs};
 use crate::judging::{compared, marks_by, report};
 use crate::remarks::remark;
-use abi_base::{Fault, NoMemory, Refusal, Remark};
+use abi_base::{NoMemory, Remark};
 use abi_types::{Export, Library, Marks, OldIx, push_label};
 use app_check::{Import, narrow, read_app, used};
+use commands::{Input, Stop, stop_at};
 use pair_compare::Comparison;
 use report::Listener;
 use std::alloc::{AllocError, Global};
@@ -51,21 +54,6 @@ pub enum AppJudged {
     No(Vec<u8>),
 }
 
-/// Why `app` gives no verdict.
-#[derive(Clone, Copy)]
-pub enum NotJudged {
-    /// The first fault of the application.
-    App(Fault),
-    /// The first fault of the old library, if the application has none.
-    Old(Fault),
-    /// The first fault of the new library, if the inputs before it have none.
-    New(Fault),
-    /// The first fault of the rule file, if no other input has one.
-    Rules(Fault),
-    /// Memory ran out, or a count would pass its limit.
-    NoMemory(NoMemory),
-}
-
 /// The result of `app`, with a remark.
 #[derive(Drop)]
 pub struct AppResult {
@@ -76,32 +64,15 @@ pub struct AppResult {
 }
 
 // The imports of the application.
-fn read_imports(alloc: Global, bytes: &[u8]) -> Result<Vec<Import<'_>>, NotJudged>
+fn read_imports(alloc: Global, bytes: &[u8]) -> Result<Vec<Import<'_>>, Stop>
     requires { length bytes.now ≤ input_limit }
     ensures readable { OnOk result (app_fault bytes.now ≡ None) }
     ensures imports { IfOk result (λ imports. plain_imports imports.items ≡ imports_of bytes.now) }
-    ensures unread { IfErr result (λ u. (old new rules : List ℕ) → IsNotJudged bytes.now old new rules u) }
-    ensures past { IfErr result (λ u. OnNotJudged u (ImportsPass bytes.now)) }
+    ensures stops { IfErr result (StopsOn input.App (app_fault bytes.now) (ImportsPass bytes.now)) }
 {
     match read_app(alloc, bytes) {
         Ok(imports) => Ok(imports),
-        Err(Refusal::Fault(fault)) => Err(NotJudged::App(fault)),
-        Err(Refusal::NoMemory(cause)) => Err(NotJudged::NoMemory(cause)),
-    }
-}
-
-// Why `app` gives no verdict, if the application is readable and an input that it shares with `check` is not.
-fn of_inputs(unread: Unchecked) -> NotJudged
-    ensures not_judged { (app old new rules : List ℕ) → app_fault app ≡ None → IsUnchecked old new rules unread
-        → IsNotJudged app old new rules result }
-    ensures past { (old new rules : List ℕ) → OnUnchecked unread (InputsPass old new rules)
-        → OnNotJudged result (InputsPass old new rules) }
-{
-    match unread {
-        Unchecked::Old(fault) => NotJudged::Old(fault),
-        Unchecked::New(fault) => NotJudged::New(fault),
-        Unchecked::Rules(fault) => NotJudged::Rules(fault),
-        Unchecked::NoMemory(cause) => NotJudged::NoMemory(cause),
+        Err(refusal) => Err(stop_at(Input::App, refusal)),
     }
 }
 
@@ -204,38 +175,28 @@ fn judge_used(
 /// Whether a new library may replace an old one for one application, in all that a rule file does not suppress, given their bytes:
 /// yes with the exports that the application uses, or no with the texts that listeners make of every break of these. A fault is
 /// that of the first input that has one, in the order app, old, new, rules.
-#[tactic(auto, using(crate::proofs::LimitLemmas::imports_pass, crate::proofs::LimitLemmas::inputs_pass_for, crate::proofs::LimitLemmas::used_pass))]
+#[tactic(auto, using(crate::proofs::StopLemmas::imports_stop_app, crate::proofs::StopLemmas::inputs_stop_app, crate::proofs::StopLemmas::used_stops_app))]
 pub fn app(
     alloc: Global,
     files: &AppFiles,
     listeners: Vec<Box<dyn Listener>>,
-) -> Result<AppResult, NotJudged>
+) -> Result<AppResult, Stop>
     requires app_short { length files.now.app.now ≤ input_limit }
     requires old_short { length files.now.old.now ≤ input_limit }
     requires new_short { length files.now.new.now ≤ input_limit }
     requires unheard { All (λ listener. heard listener ≡ []) listeners.items }
-    ensures readable { OnOk result (AreReadableFor files.now.app.now files.now.old.now files.now.new.now
-        files.now.rules.now) }
+    ensures readable { OnOk result (AreReadable app_asks
+        (files.now.app.now ∷ files.now.old.now ∷ files.now.new.now ∷ files.now.rules.now ∷ [])) }
     ensures judged { IfOk result (λ said. IsAppJudged
         (map voice listeners.items) files.now.app.now files.now.old.now files.now.new.now files.now.rules.now
         said.judged) }
     ensures remark { IfOk result (λ said. said.remark ≡ remark_on files.now.old.now files.now.new.now) }
-    ensures not_judged { IfErr result (IsNotJudged files.now.app.now files.now.old.now files.now.new.now
-        files.now.rules.now) }
-    ensures past { IfErr result (λ u. OnNotJudged u
-        (AppPasses files.now.app.now files.now.old.now files.now.new.now files.now.rules.now)) }
+    ensures stops { IfErr result (StopsAt app_asks app_passes
+        (files.now.app.now ∷ files.now.old.now ∷ files.now.new.now ∷ files.now.rules.now ∷ [])) }
 {
-    let imports = match read_imports(alloc, files.app) {
-        Ok(imports) => imports,
-        Err(unread) => return Err(unread),
-    };
-    let inputs = match read_inputs(alloc, files.old, files.new, files.rules) {
-        Ok(inputs) => inputs,
-        Err(unread) => return Err(of_inputs(unread)),
-    };
+    let imports = read_imports(alloc, files.app)?;
+    let inputs = read_inputs(alloc, files.old, files.new, files.rules)?;
     let remark = remark(&inputs.pair.old, &inputs.pair.new);
-    match judge_used(alloc, &imports, &inputs, listeners) {
-        Ok(judged) => Ok(AppResult { judged, remark }),
-        Err(cause) => Err(NotJudged::NoMemory(cause)),
-    }
+    let judged = judge_used(alloc, &imports, &inputs, listeners)?;
+    Ok(AppResult { judged, remark })
 }

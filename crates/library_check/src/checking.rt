@@ -1,41 +1,33 @@
 // Whether a new library may replace an old one, given their bytes and those of a rule file.
-ghost use Rattle.std.specs.Prelude.{◌≡◌, ◌≤◌, ℕ, List, [], None, length, map, All, OnOk, IfOk, IfErr};
+ghost use Rattle.std.specs.Prelude.{◌≡◌, ◌≤◌, [], ◌∷◌, None, length, map, All, OnOk, IfOk, IfErr};
 ghost use Rattle.abi_base.specs.Limits.{input_limit};
 ghost use Rattle.abi_base.specs.declared.fault.NoMemory.TheVariants.{Allocation};
+ghost use Rattle.commands.specs.Faults.{AreReadable, StopsAt, StopsOn};
+ghost use Rattle.commands.specs.declared.input.Input.TheVariants as input;
 ghost use Rattle.library_read.specs.Faults.{library_fault};
 ghost use Rattle.library_read.specs.Libraries.{library_of};
 ghost use Rattle.library_read.specs.Limits.{LibraryPasses};
 ghost use Rattle.suppression_text.specs.Classes.{PassesClasses};
 ghost use Rattle.suppression_text.specs.Faults.{rule_fault};
 ghost use Rattle.suppression_text.specs.Rules.{rules_of};
-ghost use Rattle.library_check.specs.Checks.{AreReadable, IsChecked, IsUnchecked};
-ghost use Rattle.library_check.specs.Limits.{CheckPasses, InputsPass, OnUnchecked, PairPasses};
+ghost use Rattle.library_check.specs.Checks.{IsChecked};
+ghost use Rattle.library_check.specs.Inputs.{check_asks, pair_asks};
+ghost use Rattle.library_check.specs.Limits.{inputs_pass, pair_passes};
 ghost use Rattle.library_check.specs.Relations.{PrintsSuchRelation};
 ghost use Rattle.library_check.specs.Remarks.{remark_on};
+ghost use Rattle.library_check.specs.Rows.Check.{check_passes};
 
 use crate::judging::{Checked, judge};
 use crate::laws::{an_accepted_certificate_tells_such_a_relation, no_rules_are_readable};
 use crate::remarks::remark;
-use abi_base::{Fault, NoMemory, Refusal, Remark};
+use abi_base::{NoMemory, Refusal, Remark};
 use abi_types::{Index, Library, NewIx, OldIx};
+use commands::{Input, Stop, stop_at};
 use library_read::copy::copied;
 use library_read::read_library;
 use report::Listener;
 use std::alloc::Global;
 use suppression_text::{Rules, read_rules};
-
-/// Why `check` gives no verdict.
-#[derive(Clone, Copy)]
-pub enum Unchecked {
-    /// The first fault of the old library.
-    Old(Fault),
-    /// The first fault of the new library, if the old one has none.
-    New(Fault),
-    /// The first fault of the rule file, if neither library has one.
-    Rules(Fault),
-    /// Memory ran out, or a count would pass its limit.
-    NoMemory(NoMemory),
-}
 
 /// Two libraries. Their types borrow names from the files' bytes.
 #[derive(Drop)]
@@ -64,34 +56,20 @@ pub struct CheckResult {
     pub remark: Remark,
 }
 
-// Reads the old library.
-fn read_old(alloc: Global, bytes: &[u8]) -> Result<Library<'_, OldIx>, Unchecked>
+/// Reads the library of an input.
+pub(crate) fn read_at<Ix: Index>(
+    alloc: Global,
+    which: Input,
+    bytes: &[u8],
+) -> Result<Library<'_, Ix>, Stop>
     requires { length bytes.now ≤ input_limit }
     ensures readable { OnOk result (library_fault bytes.now ≡ None) }
     ensures library { IfOk result (λ library. library ≡ library_of bytes.now) }
-    ensures unread { IfErr result (λ u. (new rules : List ℕ) → IsUnchecked bytes.now new rules u) }
-    ensures past { IfErr result (λ u. OnUnchecked u (LibraryPasses bytes.now)) }
+    ensures stops { IfErr result (StopsOn which (library_fault bytes.now) (LibraryPasses bytes.now)) }
 {
     match read_library(alloc, bytes) {
         Ok(library) => Ok(library),
-        Err(Refusal::Fault(fault)) => Err(Unchecked::Old(fault)),
-        Err(Refusal::NoMemory(cause)) => Err(Unchecked::NoMemory(cause)),
-    }
-}
-
-// Reads the new library, if the old one is readable.
-fn read_new(alloc: Global, bytes: &[u8]) -> Result<Library<'_, NewIx>, Unchecked>
-    requires { length bytes.now ≤ input_limit }
-    ensures readable { OnOk result (library_fault bytes.now ≡ None) }
-    ensures library { IfOk result (λ library. library ≡ library_of bytes.now) }
-    ensures unread { IfErr result (λ u. (old rules : List ℕ) → library_fault old ≡ None
-        → IsUnchecked old bytes.now rules u) }
-    ensures past { IfErr result (λ u. OnUnchecked u (LibraryPasses bytes.now)) }
-{
-    match read_library(alloc, bytes) {
-        Ok(library) => Ok(library),
-        Err(Refusal::Fault(fault)) => Err(Unchecked::New(fault)),
-        Err(Refusal::NoMemory(cause)) => Err(Unchecked::NoMemory(cause)),
+        Err(refusal) => Err(stop_at(which, refusal)),
     }
 }
 
@@ -118,63 +96,47 @@ fn read_beside<'a>(
     library: &Library<'a, OldIx>,
     old: &[u8],
     new: &'a [u8],
-) -> Result<Library<'a, NewIx>, Unchecked>
+) -> Result<Library<'a, NewIx>, Stop>
     requires old_readable { library_fault old.now ≡ None }
     requires old_library { library.now ≡ library_of old.now }
     requires new_short { length new.now ≤ input_limit }
     ensures readable { OnOk result (library_fault new.now ≡ None) }
     ensures library { IfOk result (λ library. library ≡ library_of new.now) }
-    ensures unread { IfErr result (λ u. (rules : List ℕ) → IsUnchecked old.now new.now rules u) }
-    ensures past { IfErr result (λ u. OnUnchecked u (LibraryPasses new.now)) }
+    ensures stops { IfErr result (StopsOn input.New (library_fault new.now) (LibraryPasses new.now)) }
 {
     if old != new || !is_copied(library) {
-        return read_new(alloc, new);
+        return read_at(alloc, Input::New, new);
     }
-    match copied(alloc, library) {
-        Ok(library) => Ok(library),
-        Err(cause) => Err(Unchecked::NoMemory(cause)),
-    }
+    Ok(copied(alloc, library)?)
 }
 
-/// Reads the old and the new library. A fault of the old one is reported before one of the new one; a rule file makes no
-/// difference.
-#[tactic(auto, using(crate::proofs::LimitLemmas::old_passes, crate::proofs::LimitLemmas::new_passes))]
-pub fn read_pair<'a>(alloc: Global, old: &'a [u8], new: &'a [u8]) -> Result<Pair<'a>, Unchecked>
+/// Reads the old and the new library. A fault of the old one is reported before one of the new one.
+#[tactic(auto, using(crate::proofs::StopLemmas::old_stops, crate::proofs::StopLemmas::new_stops))]
+pub fn read_pair<'a>(alloc: Global, old: &'a [u8], new: &'a [u8]) -> Result<Pair<'a>, Stop>
     requires old_short { length old.now ≤ input_limit }
     requires new_short { length new.now ≤ input_limit }
-    ensures old_readable { OnOk result (library_fault old.now ≡ None) }
-    ensures new_readable { OnOk result (library_fault new.now ≡ None) }
+    ensures readable { OnOk result (AreReadable pair_asks (old.now ∷ new.now ∷ [])) }
     ensures old { IfOk result (λ pair. pair.old ≡ library_of old.now) }
     ensures new { IfOk result (λ pair. pair.new ≡ library_of new.now) }
-    ensures unread { IfErr result (λ u. (rules : List ℕ) → IsUnchecked old.now new.now rules u) }
-    ensures past { IfErr result (λ u. OnUnchecked u (PairPasses old.now new.now)) }
+    ensures stops { IfErr result (StopsAt pair_asks pair_passes (old.now ∷ new.now ∷ [])) }
 {
-    let old_library = match read_old(alloc, old) {
-        Ok(library) => library,
-        Err(unread) => return Err(unread),
-    };
-    let new_library = match read_beside(alloc, &old_library, old, new) {
-        Ok(library) => library,
-        Err(unread) => return Err(unread),
-    };
+    let old_library = read_at(alloc, Input::Old, old)?;
+    let new_library = read_beside(alloc, &old_library, old, new)?;
     Ok(Pair {
         old: old_library,
         new: new_library,
     })
 }
 
-// Reads the rule file, if both libraries are readable.
-fn read_rule_file(alloc: Global, bytes: &[u8]) -> Result<Rules, Unchecked>
+// Reads the rule file.
+fn read_rule_file(alloc: Global, bytes: &[u8]) -> Result<Rules, Stop>
     ensures readable { OnOk result (rule_fault bytes.now ≡ None) }
     ensures rules { IfOk result (λ rules. rules ≡ rules_of bytes.now) }
-    ensures unread { IfErr result (λ u. (old new : List ℕ) → library_fault old ≡ None → library_fault new ≡ None
-        → IsUnchecked old new bytes.now u) }
-    ensures past { IfErr result (λ u. OnUnchecked u (PassesClasses bytes.now)) }
+    ensures stops { IfErr result (StopsOn input.Rules (rule_fault bytes.now) (PassesClasses bytes.now)) }
 {
     match read_rules(alloc, bytes) {
         Ok(rules) => Ok(rules),
-        Err(Refusal::Fault(fault)) => Err(Unchecked::Rules(fault)),
-        Err(Refusal::NoMemory(cause)) => Err(Unchecked::NoMemory(cause)),
+        Err(refusal) => Err(stop_at(Input::Rules, refusal)),
     }
 }
 
@@ -192,69 +154,56 @@ pub(crate) fn no_rules(alloc: Global) -> Result<Rules, NoMemory>
 }
 
 // Reads both libraries and the rule file, in this order.
-#[tactic(auto, using(crate::proofs::LimitLemmas::pair_passes, crate::proofs::LimitLemmas::rules_pass))]
+#[tactic(auto, using(crate::proofs::StopLemmas::pair_stops, crate::proofs::StopLemmas::rules_stop))]
 pub(crate) fn read_inputs<'a>(
     alloc: Global,
     old: &'a [u8],
     new: &'a [u8],
     rules: &[u8],
-) -> Result<Inputs<'a>, Unchecked>
+) -> Result<Inputs<'a>, Stop>
     requires old_short { length old.now ≤ input_limit }
     requires new_short { length new.now ≤ input_limit }
-    ensures readable { OnOk result (AreReadable old.now new.now rules.now) }
+    ensures readable { OnOk result (AreReadable check_asks (old.now ∷ new.now ∷ rules.now ∷ [])) }
     ensures old { IfOk result (λ inputs. inputs.pair.old ≡ library_of old.now) }
     ensures new { IfOk result (λ inputs. inputs.pair.new ≡ library_of new.now) }
     ensures rules { IfOk result (λ inputs. inputs.rules ≡ rules_of rules.now) }
-    ensures unread { IfErr result (IsUnchecked old.now new.now rules.now) }
-    ensures past { IfErr result (λ u. OnUnchecked u (InputsPass old.now new.now rules.now)) }
+    ensures stops { IfErr result (StopsAt check_asks inputs_pass (old.now ∷ new.now ∷ rules.now ∷ [])) }
 {
-    let pair = match read_pair(alloc, old, new) {
-        Ok(pair) => pair,
-        Err(unread) => return Err(unread),
-    };
-    let rules = match read_rule_file(alloc, rules) {
-        Ok(rules) => rules,
-        Err(unread) => return Err(unread),
-    };
+    let pair = read_pair(alloc, old, new)?;
+    let rules = read_rule_file(alloc, rules)?;
     Ok(Inputs { pair, rules })
 }
 
 /// Whether a new library may replace an old one in all that a rule file does not suppress, given their bytes: yes with the
 /// certificate, or no with the texts that listeners make of every break. A fault is that of the first input that has one, in the
 /// order old, new, rules.
-#[tactic(auto, using(crate::proofs::LimitLemmas::inputs_pass, crate::proofs::LimitLemmas::judgement_passes))]
+#[tactic(auto, using(crate::proofs::StopLemmas::inputs_stop_check, crate::proofs::StopLemmas::judgement_stops_check))]
 pub fn check(
     alloc: Global,
     old: &[u8],
     new: &[u8],
     rules: &[u8],
     listeners: Vec<Box<dyn Listener>>,
-) -> Result<CheckResult, Unchecked>
+) -> Result<CheckResult, Stop>
     requires old_short { length old.now ≤ input_limit }
     requires new_short { length new.now ≤ input_limit }
     requires unheard { All (λ listener. heard listener ≡ []) listeners.items }
-    ensures readable { OnOk result (AreReadable old.now new.now rules.now) }
+    ensures readable { OnOk result (AreReadable check_asks (old.now ∷ new.now ∷ rules.now ∷ [])) }
     ensures judged { IfOk result (λ said. IsChecked
         (map voice listeners.items) old.now new.now rules.now said.checked) }
     ensures relation { IfOk result (λ said. PrintsSuchRelation old.now new.now rules.now said.checked) }
     ensures remark { IfOk result (λ said. said.remark ≡ remark_on old.now new.now) }
-    ensures unchecked { IfErr result (IsUnchecked old.now new.now rules.now) }
-    ensures past { IfErr result (λ u. OnUnchecked u (CheckPasses old.now new.now rules.now)) }
+    ensures stops { IfErr result (StopsAt check_asks check_passes (old.now ∷ new.now ∷ rules.now ∷ [])) }
 {
     an_accepted_certificate_tells_such_a_relation();
-    let inputs = match read_inputs(alloc, old, new, rules) {
-        Ok(inputs) => inputs,
-        Err(unchecked) => return Err(unchecked),
-    };
+    let inputs = read_inputs(alloc, old, new, rules)?;
     let remark = remark(&inputs.pair.old, &inputs.pair.new);
-    match judge(
+    let checked = judge(
         alloc,
         &inputs.pair.old,
         &inputs.pair.new,
         &inputs.rules,
         listeners,
-    ) {
-        Ok(checked) => Ok(CheckResult { checked, remark }),
-        Err(cause) => Err(Unchecked::NoMemory(cause)),
-    }
+    )?;
+    Ok(CheckResult { checked, remark })
 }

@@ -1,30 +1,33 @@
 // The certificate that two certificates for a chain of three libraries compose, given their bytes.
-ghost use Rattle.std.specs.Prelude.{◌≡◌, ◌≤◌, [], None, length, OnOk, IfOk, IfErr};
+ghost use Rattle.std.specs.Prelude.{◌≡◌, ◌≤◌, [], ◌∷◌, None, length, OnOk, IfOk, IfErr};
 ghost use Rattle.abi_base.specs.Limits.{input_limit};
 ghost use Rattle.abi_base.specs.Outcome.{OnLimit};
 ghost use Rattle.cert_check.specs.Accepted.{IsAccepted};
 ghost use Rattle.cert_compose.specs.Chains.{IsChain, joint};
 ghost use Rattle.cert_text.specs.Grammar.{IsSpelled};
+ghost use Rattle.commands.specs.Faults.{AreReadable, StopsAt};
 ghost use Rattle.library_read.specs.Faults.{library_fault};
 ghost use Rattle.library_read.specs.Libraries.{library_of};
 ghost use Rattle.library_read.specs.Limits.{LibraryPasses};
 ghost use Rattle.suppression_text.specs.Rules.{rules_of};
-ghost use Rattle.library_check.specs.Compositions.{AreAccepted, AreComposable, AreReadableLibraries, IsComposition, IsJoined, IsUncomposed, first_case, plain_files};
+ghost use Rattle.library_check.specs.Compositions.{AreAccepted, IsComposition, IsJoined, bytes_in_order, first_case, plain_files};
 ghost use Rattle.library_check.specs.Judgements.{ruled};
-ghost use Rattle.library_check.specs.Limits.{ChainPasses, ComposePasses, JoinPasses, LibrariesPass, OnUncomposed, SecondPasses, SettlementPasses, WritingPasses};
-ghost use Rattle.library_check.specs.Verifications.{IsSettled, case_for, certificate_fault};
+ghost use Rattle.library_check.specs.Limits.{ChainPasses, JoinPasses, SecondPasses, SettlementPasses, WritingPasses};
+ghost use Rattle.library_check.specs.Rows.Compose.{chain_asks, chain_passes, compose_asks, compose_passes};
+ghost use Rattle.library_check.specs.Verifications.{IsSettled, case_for};
 
-use crate::checking::{is_copied, no_rules};
+use crate::checking::{is_copied, no_rules, read_at};
 use crate::judging::certificate_text;
-use crate::verifying::{Verified, settle};
-use abi_base::{Fault, INPUT_LIMIT, Limit, NoMemory, Refusal};
+use crate::verifying::{Verified, read_certificate, settle};
+use abi_base::{INPUT_LIMIT, Limit, NoMemory, Refusal};
 use abi_types::{Library, NewIx, OldIx};
 use cert_check::Refused;
 use cert_check::laws::{
     an_accepted_certificate_is_a_proof, marks_of_nothing_are_alike, what_is_accepted_keeps_all,
 };
 use cert_compose::{Chain, ComposeRefusal};
-use cert_text::{Cert, pairs_of, read_cert};
+use cert_text::{Cert, pairs_of};
+use commands::{Input, Stop};
 use library_read::copy::copied;
 use library_read::read_library;
 use std::alloc::Global;
@@ -60,23 +63,6 @@ pub enum Composed {
     Between(Refused),
 }
 
-/// Why `compose` gives no verdict.
-#[derive(Clone, Copy)]
-pub enum Uncomposed {
-    /// The first fault of the first library.
-    First(Fault),
-    /// The first fault of the middle library, if the first one has none.
-    Middle(Fault),
-    /// The first fault of the last library, if the others have none.
-    Last(Fault),
-    /// The first fault of the first certificate, if no library has one.
-    Certificate1(Fault),
-    /// The first fault of the second certificate, if no other input has one.
-    Certificate2(Fault),
-    /// Memory ran out, or a count would pass its limit: the composed certificate, for one, may not be longer than an input.
-    NoMemory(NoMemory),
-}
-
 /// Three libraries of a chain. Their types borrow names from the files' bytes. The middle one is held twice, once for each side.
 #[derive(Drop)]
 struct Libraries<'a> {
@@ -91,54 +77,6 @@ struct Libraries<'a> {
 struct Certificates {
     one: Cert,
     other: Cert,
-}
-
-// Reads the first library.
-fn read_first<'a>(alloc: Global, files: &ChainFiles<'a>) -> Result<Library<'a, OldIx>, Uncomposed>
-    requires { length files.now.first.now ≤ input_limit }
-    ensures readable { OnOk result (library_fault files.now.first.now ≡ None) }
-    ensures library { IfOk result (λ library. library ≡ library_of files.now.first.now) }
-    ensures unread { IfErr result (IsUncomposed (plain_files files.now)) }
-    ensures past { IfErr result (λ u. OnUncomposed u (LibraryPasses files.now.first.now)) }
-{
-    match read_library(alloc, files.first) {
-        Ok(library) => Ok(library),
-        Err(Refusal::Fault(fault)) => Err(Uncomposed::First(fault)),
-        Err(Refusal::NoMemory(cause)) => Err(Uncomposed::NoMemory(cause)),
-    }
-}
-
-// Reads the middle library, if the first one is readable.
-fn read_middle<'a>(alloc: Global, files: &ChainFiles<'a>) -> Result<Library<'a, NewIx>, Uncomposed>
-    requires short { length files.now.middle.now ≤ input_limit }
-    requires first { library_fault files.now.first.now ≡ None }
-    ensures readable { OnOk result (library_fault files.now.middle.now ≡ None) }
-    ensures library { IfOk result (λ library. library ≡ library_of files.now.middle.now) }
-    ensures unread { IfErr result (IsUncomposed (plain_files files.now)) }
-    ensures past { IfErr result (λ u. OnUncomposed u (LibraryPasses files.now.middle.now)) }
-{
-    match read_library(alloc, files.middle) {
-        Ok(library) => Ok(library),
-        Err(Refusal::Fault(fault)) => Err(Uncomposed::Middle(fault)),
-        Err(Refusal::NoMemory(cause)) => Err(Uncomposed::NoMemory(cause)),
-    }
-}
-
-// Reads the last library, if the others are readable.
-fn read_last<'a>(alloc: Global, files: &ChainFiles<'a>) -> Result<Library<'a, NewIx>, Uncomposed>
-    requires short { length files.now.last.now ≤ input_limit }
-    requires first { library_fault files.now.first.now ≡ None }
-    requires middle { library_fault files.now.middle.now ≡ None }
-    ensures readable { OnOk result (library_fault files.now.last.now ≡ None) }
-    ensures library { IfOk result (λ library. library ≡ library_of files.now.last.now) }
-    ensures unread { IfErr result (IsUncomposed (plain_files files.now)) }
-    ensures past { IfErr result (λ u. OnUncomposed u (LibraryPasses files.now.last.now)) }
-{
-    match read_library(alloc, files.last) {
-        Ok(library) => Ok(library),
-        Err(Refusal::Fault(fault)) => Err(Uncomposed::Last(fault)),
-        Err(Refusal::NoMemory(cause)) => Err(Uncomposed::NoMemory(cause)),
-    }
 }
 
 // The middle library for its other side: a copy, unless that would take too much memory.
@@ -164,93 +102,30 @@ fn read_middle_again<'a>(
 }
 
 // Reads the libraries, in order. The middle one is read once, and copied for its other side.
-#[tactic(auto, using(crate::proofs::LimitLemmas::first_passes, crate::proofs::LimitLemmas::middle_passes, crate::proofs::LimitLemmas::last_passes, crate::proofs::LimitLemmas::copy_passes))]
-fn read_libraries<'a>(alloc: Global, files: &ChainFiles<'a>) -> Result<Libraries<'a>, Uncomposed>
+#[tactic(auto, using(crate::proofs::StopLemmas::first_stops, crate::proofs::StopLemmas::middle_stops, crate::proofs::StopLemmas::last_stops, crate::proofs::StopLemmas::copy_stops))]
+fn read_libraries<'a>(alloc: Global, files: &ChainFiles<'a>) -> Result<Libraries<'a>, Stop>
     requires first_short { length files.now.first.now ≤ input_limit }
     requires middle_short { length files.now.middle.now ≤ input_limit }
     requires last_short { length files.now.last.now ≤ input_limit }
-    ensures readable { OnOk result (AreReadableLibraries (plain_files files.now)) }
+    ensures readable { OnOk result (AreReadable chain_asks
+        (files.now.first.now ∷ files.now.middle.now ∷ files.now.last.now ∷ [])) }
     ensures first { IfOk result (λ libraries. libraries.first ≡ library_of files.now.first.now) }
     ensures middle_new { IfOk result (λ libraries. libraries.middle_new ≡ library_of files.now.middle.now) }
     ensures middle_old { IfOk result (λ libraries. libraries.middle_old ≡ library_of files.now.middle.now) }
     ensures last { IfOk result (λ libraries. libraries.last ≡ library_of files.now.last.now) }
-    ensures unread { IfErr result (IsUncomposed (plain_files files.now)) }
-    ensures past { IfErr result (λ u. OnUncomposed u
-        (LibrariesPass files.now.first.now files.now.middle.now files.now.last.now)) }
+    ensures stops { IfErr result (StopsAt chain_asks chain_passes
+        (files.now.first.now ∷ files.now.middle.now ∷ files.now.last.now ∷ [])) }
 {
-    let first = match read_first(alloc, files) {
-        Ok(first) => first,
-        Err(unread) => return Err(unread),
-    };
-    let middle_new = match read_middle(alloc, files) {
-        Ok(middle) => middle,
-        Err(unread) => return Err(unread),
-    };
-    let last = match read_last(alloc, files) {
-        Ok(last) => last,
-        Err(unread) => return Err(unread),
-    };
-    let middle_old = match read_middle_again(alloc, files.middle, &middle_new) {
-        Ok(middle) => middle,
-        Err(cause) => return Err(Uncomposed::NoMemory(cause)),
-    };
+    let first = read_at(alloc, Input::First, files.first)?;
+    let middle_new = read_at(alloc, Input::Middle, files.middle)?;
+    let last = read_at(alloc, Input::Last, files.last)?;
+    let middle_old = read_middle_again(alloc, files.middle, &middle_new)?;
     Ok(Libraries {
         first,
         middle_new,
         middle_old,
         last,
     })
-}
-
-// Reads the first certificate, if the libraries are readable. It passes no limit: memory runs out only where an allocation fails.
-fn read_one(alloc: Global, files: &ChainFiles) -> Result<Cert, Uncomposed>
-    requires { AreReadableLibraries (plain_files files.now) }
-    ensures readable { OnOk result (certificate_fault files.now.certificate1.now ≡ None) }
-    ensures spelled { IfOk result (λ cert. IsSpelled files.now.certificate1.now cert) }
-    ensures unread { IfErr result (IsUncomposed (plain_files files.now)) }
-    ensures named { IfErr result (λ u. OnUncomposed u (λ l. ⊥)) }
-{
-    match read_cert(alloc, files.certificate1) {
-        Ok(cert) => Ok(cert),
-        Err(Refusal::Fault(fault)) => Err(Uncomposed::Certificate1(fault)),
-        Err(Refusal::NoMemory(cause)) => Err(Uncomposed::NoMemory(cause)),
-    }
-}
-
-// Reads the second certificate, if the libraries and the first certificate are readable.
-fn read_other(alloc: Global, files: &ChainFiles) -> Result<Cert, Uncomposed>
-    requires libraries { AreReadableLibraries (plain_files files.now) }
-    requires one { certificate_fault files.now.certificate1.now ≡ None }
-    ensures readable { OnOk result (certificate_fault files.now.certificate2.now ≡ None) }
-    ensures spelled { IfOk result (λ cert. IsSpelled files.now.certificate2.now cert) }
-    ensures unread { IfErr result (IsUncomposed (plain_files files.now)) }
-    ensures named { IfErr result (λ u. OnUncomposed u (λ l. ⊥)) }
-{
-    match read_cert(alloc, files.certificate2) {
-        Ok(cert) => Ok(cert),
-        Err(Refusal::Fault(fault)) => Err(Uncomposed::Certificate2(fault)),
-        Err(Refusal::NoMemory(cause)) => Err(Uncomposed::NoMemory(cause)),
-    }
-}
-
-// Reads both certificates, in order, if the libraries are readable.
-fn read_certificates(alloc: Global, files: &ChainFiles) -> Result<Certificates, Uncomposed>
-    requires { AreReadableLibraries (plain_files files.now) }
-    ensures readable { OnOk result (AreComposable (plain_files files.now)) }
-    ensures one { IfOk result (λ certificates. IsSpelled files.now.certificate1.now certificates.one) }
-    ensures other { IfOk result (λ certificates. IsSpelled files.now.certificate2.now certificates.other) }
-    ensures unread { IfErr result (IsUncomposed (plain_files files.now)) }
-    ensures named { IfErr result (λ u. OnUncomposed u (λ l. ⊥)) }
-{
-    let one = match read_one(alloc, files) {
-        Ok(one) => one,
-        Err(unread) => return Err(unread),
-    };
-    let other = match read_other(alloc, files) {
-        Ok(other) => other,
-        Err(unread) => return Err(unread),
-    };
-    Ok(Certificates { one, other })
 }
 
 // The text of a certificate, or `NoMemory` if it is longer than an input may be. A certificate with too many pair lines is not even
@@ -394,26 +269,23 @@ fn join(
 /// may replace the first, and one that the last may replace the middle one. Else it returns the first refusal: of the first
 /// certificate, of the second one, or for what is lost between them. There are no suppressions. A fault is that of the first input
 /// that has one.
-#[tactic(auto, using(crate::proofs::LimitLemmas::libraries_compose, crate::proofs::LimitLemmas::nothing_composes, crate::proofs::LimitLemmas::chain_composes))]
-pub fn compose(alloc: Global, files: &ChainFiles) -> Result<Composed, Uncomposed>
+#[tactic(auto, using(crate::proofs::StopLemmas::libraries_stop_compose, crate::proofs::StopLemmas::one_stops_compose, crate::proofs::StopLemmas::other_stops_compose))]
+pub fn compose(alloc: Global, files: &ChainFiles) -> Result<Composed, Stop>
     requires first_short { length files.now.first.now ≤ input_limit }
     requires middle_short { length files.now.middle.now ≤ input_limit }
     requires last_short { length files.now.last.now ≤ input_limit }
-    ensures readable { OnOk result (AreComposable (plain_files files.now)) }
+    ensures readable { OnOk result (AreReadable compose_asks (bytes_in_order (plain_files files.now))) }
     ensures composed { IfOk result (IsComposition (plain_files files.now)) }
-    ensures uncomposed { IfErr result (IsUncomposed (plain_files files.now)) }
-    ensures past { IfErr result (λ u. OnUncomposed u (ComposePasses (plain_files files.now))) }
+    ensures stops { IfErr result (StopsAt compose_asks compose_passes (bytes_in_order (plain_files files.now))) }
 {
-    let libraries = match read_libraries(alloc, files) {
-        Ok(libraries) => libraries,
-        Err(unread) => return Err(unread),
+    let libraries = read_libraries(alloc, files)?;
+    let one = read_certificate(alloc, Input::Certificate1, files.certificate1)?;
+    let other = match read_certificate(alloc, Input::Certificate2, files.certificate2) {
+        Ok(other) => other,
+        Err(stop) => return Err(stop),
     };
-    let certificates = match read_certificates(alloc, files) {
-        Ok(certificates) => certificates,
-        Err(unread) => return Err(unread),
-    };
-    match join(alloc, &libraries, &certificates) {
+    match join(alloc, &libraries, &Certificates { one, other }) {
         Ok(composed) => Ok(composed),
-        Err(cause) => Err(Uncomposed::NoMemory(cause)),
+        Err(cause) => Err(Stop::NoMemory(cause)),
     }
 }

@@ -1,6 +1,6 @@
 //! What the answers of `check`, `app`, `verify`, `migrate` and `compose` imply. Each law is the contract of a function that only
 //! cites the laws below it.
-ghost use Rattle.std.specs.Prelude.{◌≡◌, ◌≢◌, ◌≤◌, ◌↔◌, ℕ, List, [], None, length, All};
+ghost use Rattle.std.specs.Prelude.{◌≡◌, ◌≢◌, ◌≤◌, ◌↔◌, ℕ, List, [], ◌∷◌, None, length, All};
 ghost use Rattle.abi_base.specs.Limits.{input_limit};
 ghost use Rattle.abi_types.specs.Libraries.{PlainLibrary};
 ghost use Rattle.accesses.specs.LeafPlaces.{LeavesStay};
@@ -19,16 +19,19 @@ ghost use Rattle.suppressions.specs.Marks.{marks_of};
 ghost use Rattle.suppressions.specs.Reasons.{HasNoWays};
 ghost use Rattle.library_check.specs.declared.composing.Composed.{Composed};
 ghost use Rattle.library_check.specs.declared.migrating.Migrated.{Migrated};
-ghost use Rattle.library_check.specs.declared.verifying.Unverified.{Unverified};
 ghost use Rattle.library_check.specs.declared.verifying.Verified.{Verified};
 ghost use Rattle.library_check.specs.declared.verifying.Verified.TheVariants.{Accepted};
 ghost use Rattle.library_check.specs.declared.applying.AppJudged.{AppJudged};
 ghost use Rattle.library_check.specs.Applications.{AgreedFor, ImportTheSame, IsAppJudged, IsAppReportText, IsCompatibleFor, IsYes, KeepsLeavesFor, SameApp, sides_for};
-ghost use Rattle.library_check.specs.Checks.{Agreed, AreReadable, Compatible, IsCertificateText, IsReportText, sides_of};
+ghost use Rattle.commands.specs.Faults.{AreReadable, IsOutOfMemory, StopsAt};
+ghost use Rattle.commands.specs.declared.stop.Stop.{Stop as AnyStop};
+ghost use Rattle.library_check.specs.Checks.{Agreed, Compatible, IsCertificateText, IsReportText, sides_of};
 ghost use Rattle.library_check.specs.Compositions.{IsComposedText, IsComposition, PlainFiles, SameComposed};
 ghost use Rattle.library_check.specs.Migrations.{IsMigrated, IsMigratedText, IsRefusedMigration, SameMigrated};
+ghost use Rattle.library_check.specs.Inputs.{check_asks};
 ghost use Rattle.library_check.specs.Relations.{IsRelationText};
-ghost use Rattle.library_check.specs.Verifications.{IsAcceptedText, IsOutOfMemory, IsUnverified, IsVerified, certificate_fault};
+ghost use Rattle.library_check.specs.Rows.Verify.{verify_asks, verify_passes};
+ghost use Rattle.library_check.specs.Verifications.{IsAcceptedText, IsVerified, certificate_fault};
 ghost use Rattle.library_check.specs.Voices.{TellsItsText};
 ghost use Rattle.report.specs.declared.styles.report_option.ReportStyle.{ReportStyle as AnyWanted};
 ghost use Rattle.report.specs.declared.styles.report_option.ReportStyle.TheVariants.{Own};
@@ -64,10 +67,10 @@ pub fn a_file_may_replace_itself()
 /// texts the rows determine.
 pub fn a_check_has_one_text()
     ensures certificate { (old new rules text other : List ℕ) → length old ≤ input_limit → length new ≤ input_limit
-        → AreReadable old new rules
+        → AreReadable check_asks (old ∷ new ∷ rules ∷ [])
         → IsCertificateText old new rules text → IsCertificateText old new rules other → text ≡ other }
     ensures report { (voices : List Voice) (old new rules text other : List ℕ) → All TellsItsText voices
-        → length old ≤ input_limit → length new ≤ input_limit → AreReadable old new rules
+        → length old ≤ input_limit → length new ≤ input_limit → AreReadable check_asks (old ∷ new ∷ rules ∷ [])
         → IsReportText voices old new rules text → IsReportText voices old new rules other → text ≡ other }
 {
     two_libraries_have_one_right_answer();
@@ -99,9 +102,9 @@ pub fn what_check_prints_is_accepted()
         → IsAcceptedText old new rules text }
     ensures alone { (old new rules text : List ℕ) (verified : Verified) → IsCertificateText old new rules text
         → IsVerified old new rules text verified → verified ≡ Accepted }
-    ensures memory { (old new rules text : List ℕ) (unverified : Unverified) → AreReadable old new rules
+    ensures memory { (old new rules text : List ℕ) (stop : AnyStop) → AreReadable check_asks (old ∷ new ∷ rules ∷ [])
         → IsCertificateText old new rules text
-        → IsUnverified old new rules text unverified → IsOutOfMemory unverified }
+        → StopsAt verify_asks verify_passes (old ∷ new ∷ rules ∷ text ∷ []) stop → IsOutOfMemory stop }
 {
     what_is_spelled_has_no_fault();
     a_verification_has_one_answer();

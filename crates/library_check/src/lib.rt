@@ -15,10 +15,10 @@ mod remarks;
 pub mod trial;
 mod verifying;
 
-pub use applying::{AppFiles, AppJudged, AppResult, NotJudged, app};
+pub use applying::{AppFiles, AppJudged, AppResult, app};
 pub use cert_check::{Refused, RefusedKind};
-pub use checking::{CheckResult, Pair, Unchecked, check, read_pair};
-pub use composing::{ChainFiles, Composed, Uncomposed, compose};
+pub use checking::{CheckResult, Pair, check, read_pair};
+pub use composing::{ChainFiles, Composed, compose};
 pub use judging::{Checked, judge};
 pub use migrating::{Migrated, migrate};
-pub use verifying::{Unverified, Verified, verify};
+pub use verifying::{Verified, verify};

@@ -1,23 +1,26 @@
 // Migrates a certificate of version 1 to version 2, if the migrated one proves that a new library may replace an old one, given
 // their bytes and those of a rule file.
-ghost use Rattle.std.specs.Prelude.{◌≡◌, ◌≤◌, ℕ, List, None, length, OnOk, IfOk, IfErr};
+ghost use Rattle.std.specs.Prelude.{◌≡◌, ◌≤◌, [], ◌∷◌, None, length, OnOk, IfOk, IfErr};
 ghost use Rattle.abi_base.specs.Limits.{input_limit};
 ghost use Rattle.abi_base.specs.Outcome.{OnLimit};
 ghost use Rattle.abi_base.specs.declared.fault.NoMemory.TheVariants.{Allocation};
 ghost use Rattle.cert_text.specs.Certs as certs;
 ghost use Rattle.cert_text.specs.Grammar.{IsSpelled1};
-ghost use Rattle.library_check.specs.Checks.{AreReadable};
+ghost use Rattle.commands.specs.Faults.{AreReadable, StopsAt, StopsOn};
+ghost use Rattle.commands.specs.declared.input.Input.TheVariants as input;
 ghost use Rattle.library_check.specs.Judgements.{ruled};
-ghost use Rattle.library_check.specs.Limits.{MigratePasses, OnUnverified, SettlementPasses};
-ghost use Rattle.library_check.specs.Migrations.{AreMigratable, IsMigrated, IsMigration, IsUnmigrated, old_certificate_fault};
+ghost use Rattle.library_check.specs.Limits.{SettlementPasses};
+ghost use Rattle.library_check.specs.Migrations.{IsMigrated, IsMigration, old_certificate_fault};
+ghost use Rattle.library_check.specs.Rows.Migrate.{migrate_asks, migrate_passes};
 
 use crate::checking::read_inputs;
 use crate::judging::certificate_text;
-use crate::verifying::{Unverified, Verified, of_inputs, settle};
-use abi_base::{NoMemory, Refusal};
+use crate::verifying::{Verified, settle};
+use abi_base::NoMemory;
 use abi_types::{Library, NewIx, OldIx};
 use cert_check::Refused;
 use cert_text::{Cert, Cert1, read_cert_1};
+use commands::{Input, Stop, stop_at};
 use std::alloc::Global;
 use suppression_text::Rules;
 
@@ -31,19 +34,15 @@ pub enum Migrated {
     Refused(Refused),
 }
 
-// Reads the certificate of version 1, if all other inputs are readable. It passes no limit: memory runs out only where an allocation
-// fails.
-fn read_old_certificate(alloc: Global, bytes: &[u8]) -> Result<Cert1, Unverified>
+// Reads the certificate of version 1. It passes no limit: memory runs out only where an allocation fails.
+fn read_old_certificate(alloc: Global, bytes: &[u8]) -> Result<Cert1, Stop>
     ensures readable { OnOk result (old_certificate_fault bytes.now ≡ None) }
     ensures spelled { IfOk result (λ cert. IsSpelled1 bytes.now cert) }
-    ensures unread { IfErr result (λ u. (old new rules : List ℕ) → AreReadable old new rules
-        → IsUnmigrated old new rules bytes.now u) }
-    ensures named { IfErr result (λ u. OnUnverified u (λ l. ⊥)) }
+    ensures stops { IfErr result (StopsOn input.Certificate (old_certificate_fault bytes.now) (λ l. ⊥)) }
 {
     match read_cert_1(alloc, bytes) {
         Ok(cert) => Ok(cert),
-        Err(Refusal::Fault(fault)) => Err(Unverified::Certificate(fault)),
-        Err(Refusal::NoMemory(cause)) => Err(Unverified::NoMemory(cause)),
+        Err(refusal) => Err(stop_at(Input::Certificate, refusal)),
     }
 }
 
@@ -78,37 +77,30 @@ fn settle_migrated(
 /// Migrates a certificate of version 1: returns the text of the certificate of version 2 with the same meaning, if that proves that
 /// a new library may replace an old one in all that a rule file does not suppress, given their bytes. A fault is that of the first
 /// input that has one, in the order old, new, rules, certificate.
-#[tactic(auto, using(crate::proofs::LimitLemmas::inputs_migrate, crate::proofs::LimitLemmas::nothing_migrates, crate::proofs::LimitLemmas::settlement_migrates))]
+#[tactic(auto, using(crate::proofs::StopLemmas::inputs_stop_migrate, crate::proofs::StopLemmas::certificate_stops_migrate, crate::proofs::StopLemmas::settlement_stops_migrate))]
 pub fn migrate(
     alloc: Global,
     old: &[u8],
     new: &[u8],
     rules: &[u8],
     certificate: &[u8],
-) -> Result<Migrated, Unverified>
+) -> Result<Migrated, Stop>
     requires old_short { length old.now ≤ input_limit }
     requires new_short { length new.now ≤ input_limit }
-    ensures readable { OnOk result (AreMigratable old.now new.now rules.now certificate.now) }
+    ensures readable { OnOk result (AreReadable migrate_asks
+        (old.now ∷ new.now ∷ rules.now ∷ certificate.now ∷ [])) }
     ensures migrated { IfOk result (IsMigrated old.now new.now rules.now certificate.now) }
-    ensures unmigrated { IfErr result (IsUnmigrated old.now new.now rules.now certificate.now) }
-    ensures past { IfErr result (λ u. OnUnverified u (MigratePasses old.now new.now rules.now certificate.now)) }
+    ensures stops { IfErr result (StopsAt migrate_asks migrate_passes
+        (old.now ∷ new.now ∷ rules.now ∷ certificate.now ∷ [])) }
 {
-    let inputs = match read_inputs(alloc, old, new, rules) {
-        Ok(inputs) => inputs,
-        Err(unread) => return Err(of_inputs(unread)),
-    };
-    let cert = match read_old_certificate(alloc, certificate) {
-        Ok(cert) => cert,
-        Err(unmigrated) => return Err(unmigrated),
-    };
-    match settle_migrated(
+    let inputs = read_inputs(alloc, old, new, rules)?;
+    let cert = read_old_certificate(alloc, certificate)?;
+    let migrated = settle_migrated(
         alloc,
         &inputs.pair.old,
         &inputs.pair.new,
         &inputs.rules,
         &cert,
-    ) {
-        Ok(migrated) => Ok(migrated),
-        Err(cause) => Err(Unverified::NoMemory(cause)),
-    }
+    )?;
+    Ok(migrated)
 }

@@ -2,16 +2,9 @@
 use Rattle.std.specs.Prelude.{ℕ, List}
 use Rattle.library_read.specs.Libraries.{library_of}
 use Rattle.library_layout.specs.Structures.{IsCoverIn}
-use Rattle.library_layout.specs.declared.layouts.Layout.{Layout}
-use Rattle.library_layout.specs.declared.layouts.Layout.TheVariants.{Lines, NoTag}
 
 -- The text is that of the rows of the structure with the tag. If none of them is an overlap or a member that ends outside, each bit
 -- below the size is in exactly one row, and no row reaches past the size. If members overlap or one ends outside, there is a row
 -- for it.
 abbrev pub CoversEachBit : List ℕ → List ℕ → List ℕ → Type 0
 CoversEachBit library tag text = IsCoverIn (library_of library).graph tag text
-
--- if there is a layout, its lines are such a text
-abbrev pub LaysEachBit : List ℕ → List ℕ → Layout → Type 0
-LaysEachBit library tag (Lines text) = CoversEachBit library tag text.items
-LaysEachBit library tag NoTag = Unit {0}

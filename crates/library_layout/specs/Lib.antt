@@ -1,3 +1,4 @@
+pub mod Command
 pub mod Covers
 pub mod Layouts
 pub mod Limits

@@ -3,19 +3,11 @@ use Rattle.std.specs.Prelude.{◌≡◌, ◌<◌, ◌⊎◌, ℕ, List, length, 
 use Rattle.abi_base.specs.declared.limit.Limit.{Limit}
 use Rattle.abi_base.specs.declared.limit.Limit.TheVariants.{LayoutNames}
 use Rattle.abi_base.specs.Budgets.{allowed}
-use Rattle.abi_base.specs.Outcome.{OnLimit}
 use Rattle.abi_types.specs.Types.{PlainPart, Member, PlainNode}
 use Rattle.abi_types.specs.Graphs.{view_at}
 use Rattle.library_read.specs.Libraries.{library_of}
 use Rattle.library_read.specs.Limits.{LibraryPasses}
 use Rattle.type_print.specs.Structures.{IsFirstTagged}
-use Rattle.library_layout.specs.declared.libraries.NoLayout.{NoLayout}
-use Rattle.library_layout.specs.declared.libraries.NoLayout.TheVariants as unlaid
-
--- what holds of the limit, if there is no answer since a count would pass one
-abbrev pub OnNoLayout : NoLayout → (Limit → Type 0) → Type 0
-OnNoLayout (unlaid.Unreadable fault) P = Unit {0}
-OnNoLayout (unlaid.NoMemory cause) P = OnLimit cause P
 
 -- the letters of the name of a member
 abbrev pub member_letters : PlainPart → ℕ

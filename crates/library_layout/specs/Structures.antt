@@ -9,11 +9,9 @@ use Rattle.abi_types.specs.Graphs.{view_at}
 use Rattle.strsim.specs.Edits.{levenshtein_row}
 use Rattle.type_print.specs.declared.row.LayoutRow.{LayoutRow}
 use Rattle.type_print.specs.Laws.{CoverEachBitOnce, IsClean, NameClashes}
-use Rattle.type_print.specs.Structures.{bits_at, has_layout, is_structure, members_at, AreRowsAt, IsFirstTagged, IsUntagged}
+use Rattle.type_print.specs.Structures.{bits_at, has_layout, is_structure, members_at, AreRowsAt, IsFirstTagged}
 use Rattle.type_print.specs.Texts.{layout_text}
 use Rattle.library_layout.specs.declared.near.Near.{Near}
-use Rattle.library_layout.specs.declared.layouts.Layout.{Layout}
-use Rattle.library_layout.specs.declared.layouts.Layout.TheVariants.{Lines, NoTag}
 use Rattle.library_layout.specs.declared.others.OtherTag.{OtherTag}
 use Rattle.library_layout.specs.declared.others.OtherTag.TheVariants.{Union, Enumeration}
 
@@ -24,11 +22,6 @@ pub record IsLayoutIn (nodes : List PlainNode) (tag text : List ℕ) : Type 0 wh
   pub rows : List LayoutRow
   pub laid : AreRowsAt nodes number rows
   pub is : text ≡ layout_text (view_at nodes number) rows
-
--- the answer for the tag
-abbrev pub IsLaidIn : List PlainNode → List ℕ → Layout → Type 0
-IsLaidIn nodes tag (Lines text) = IsLayoutIn nodes tag text.items
-IsLaidIn nodes tag NoTag = IsUntagged nodes tag
 
 -- The text is that of the rows of the structure. If none of them is an overlap or a member that ends outside, each bit below the
 -- size is in exactly one row, and no row reaches past the size. If members overlap or one ends outside, there is a row for it.

@@ -1,27 +1,18 @@
 // The layout of a structure in a graph.
-ghost use Rattle.std.specs.Prelude.{◌≡◌, ◌<◌, ◌^◌, ◌↔◌, length, IfErr, IfOk, IsTrue};
+ghost use Rattle.std.specs.Prelude.{◌≡◌, ◌<◌, ◌^◌, ◌↔◌, length, IfErr, IfNone, IfOk, IfSome, IsTrue};
 ghost use Rattle.abi_base.specs.declared.fault.NoMemory.TheVariants.{Allocation};
 ghost use Rattle.abi_base.specs.Outcome.{OnLimit};
 ghost use Rattle.abi_types.specs.Parts.{plain_part};
-ghost use Rattle.type_print.specs.Structures.{IsFirstTagged};
+ghost use Rattle.type_print.specs.Structures.{IsFirstTagged, IsUntagged};
 ghost use Rattle.type_print.specs.Structures as structures_spec;
 ghost use Rattle.library_layout.specs.Limits.{LettersPass, TagPasses, member_letters};
-ghost use Rattle.library_layout.specs.Structures.{IsDeclaredIn, IsLaidIn, IsLayoutIn};
+ghost use Rattle.library_layout.specs.Structures.{IsDeclaredIn, IsLayoutIn};
 ghost use Rattle.library_layout.specs.Structures as structures;
 
 use abi_base::{Budget, Limit, NoMemory};
 use abi_types::{Graph, Index, Kind, Part, View};
 use std::alloc::Global;
 use type_print::{find_tag, layout, layout_lines};
-
-/// The answer of `layout` for a readable library.
-#[derive(Drop)]
-pub enum Layout {
-    /// The lines of the layout of the structure with the tag.
-    Lines(Vec<u8>),
-    /// The exports of the library reach no structure with a definition and this tag.
-    NoTag,
-}
 
 // How many letters the name of a member has.
 fn letters_of<Ix: Index>(part: &Part<Ix>) -> usize
@@ -61,12 +52,8 @@ fn text_at<Ix: Index>(
     ensures laid { IfOk result (λ text. IsLayoutIn graph.now tag.now text.items) }
     ensures named { IfErr result (λ e. e ≡ Allocation) }
 {
-    let Ok(rows) = layout(alloc, graph, ix) else {
-        return Err(NoMemory::Allocation);
-    };
-    let Ok(text) = layout_lines(alloc, graph.view(ix), rows.as_slice()) else {
-        return Err(NoMemory::Allocation);
-    };
+    let rows = layout(alloc, graph, ix)?;
+    let text = layout_lines(alloc, graph.view(ix), rows.as_slice())?;
     Ok(text.into_bytes())
 }
 
@@ -88,24 +75,25 @@ fn lines_at<Ix: Index>(
     text_at(alloc, graph, tag, ix)
 }
 
-/// The layout of the structure with the tag in a graph, if the names of its members have no more letters than a layout of a file with
-/// this many bytes may print.
+/// The lines of the layout of the structure with the tag in a graph, if there is one. It fails where the names of its members have
+/// more letters than a layout of a file with this many bytes may print.
 pub(crate) fn laid_in<Ix: Index>(
     alloc: Global,
     graph: &Graph<Ix>,
     tag: &[u8],
     bytes: usize,
-) -> Result<Layout, NoMemory>
+) -> Result<Option<Vec<u8>>, NoMemory>
     requires { bytes < 2 ^ 38 }
-    ensures laid { IfOk result (IsLaidIn graph.now tag.now) }
+    ensures laid { IfOk result (λ found. IfSome found (λ text. IsLayoutIn graph.now tag.now text.items)) }
+    ensures none { IfOk result (λ found. IfNone found (IsUntagged graph.now tag.now)) }
     ensures past { IfErr result (λ e. OnLimit e (TagPasses graph.now tag.now bytes)) }
 {
     match find_tag(graph, tag) {
         Some(ix) => {
             let text = lines_at(alloc, graph, tag, ix, bytes)?;
-            Ok(Layout::Lines(text))
+            Ok(Some(text))
         }
-        None => Ok(Layout::NoTag),
+        None => Ok(None),
     }
 }
 

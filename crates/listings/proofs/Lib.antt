@@ -1,2 +1,3 @@
 mod entries_lemmas
+mod LimitLemmas
 mod LinesTaken

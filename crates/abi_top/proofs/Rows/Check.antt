@@ -7,12 +7,13 @@ use Rattle.abi_top.specs.Rows.Check.{CheckSays, OnCheck, check_inputs, check_say
 use Rattle.cli_args.specs.Commands.{check}
 use Rattle.cli_args.specs.ParsedArguments.{request, arguments_by}
 use Rattle.commands.specs.Commands.{asks_of, places_of}
-use Rattle.commands.specs.Faults.{AreReadable as AllReadable}
+use Rattle.commands.specs.Faults.{AreReadable}
 use Rattle.commands.specs.OneReply.{SaysOne}
 use Rattle.commands.specs.Reading.{Gives}
 use Rattle.commands.specs.declared.verdict.Verdict.{Verdict}
 use Rattle.commands.specs.declared.verdict.Verdict.TheVariants as verdict
-use Rattle.library_check.specs.Checks.{AreReadable, IsCertificateText, IsReportText}
+use Rattle.library_check.specs.Checks.{IsCertificateText, IsReportText}
+use Rattle.library_check.specs.Inputs.{check_asks}
 use Rattle.library_check.specs.Remarks.{remark_on}
 use Rattle.library_check.specs.Voices.{TellsItsText}
 use Rattle.report.specs.Listening.{Voice}
@@ -24,7 +25,7 @@ module _ (call : Call) (v : Verdict) (untyped : Option Remark) (text : List ℕ)
   OfCheck = OnCheck call (λ report old new rules. CheckSays (wanted_voices report call.voices) old new rules v text × (untyped ≡ Some (remark_on old new)))
 
   pub of_check : (rules_name : Option (List ℕ)) (report : ReportStyle) (old_name new_name : List ℕ) → arguments_by call.words ≡ request (check rules_name report old_name new_name)
-      → (all : List (List ℕ)) → Gives call.reading.told (places_of (check_inputs rules_name old_name new_name)) all → AllReadable (asks_of (check_inputs rules_name old_name new_name)) all
+      → (all : List (List ℕ)) → Gives call.reading.told (places_of (check_inputs rules_name old_name new_name)) all → AreReadable (asks_of (check_inputs rules_name old_name new_name)) all
       → check_says (wanted_voices report call.voices) all v untyped text → OfCheck
   of_check rules_name report old_name new_name is [] gives readable said = absurd said
   of_check rules_name report old_name new_name is (a ∷ []) gives readable said = absurd said
@@ -34,13 +35,13 @@ module _ (call : Call) (v : Verdict) (untyped : Option Remark) (text : List ℕ)
 
 -- the laws by which it has one text
 pub record HasOneCheck : Type 0 where
-  pub certificate : (old new rules text other : List ℕ) → length old ≤ input_limit → length new ≤ input_limit → AreReadable old new rules
+  pub certificate : (old new rules text other : List ℕ) → length old ≤ input_limit → length new ≤ input_limit → AreReadable check_asks (old ∷ new ∷ rules ∷ [])
       → IsCertificateText old new rules text → IsCertificateText old new rules other → text ≡ other
-  pub report : (voices : List Voice) (old new rules text other : List ℕ) → All TellsItsText voices → length old ≤ input_limit → length new ≤ input_limit → AreReadable old new rules
+  pub report : (voices : List Voice) (old new rules text other : List ℕ) → All TellsItsText voices → length old ≤ input_limit → length new ≤ input_limit → AreReadable check_asks (old ∷ new ∷ rules ∷ [])
       → IsReportText voices old new rules text → IsReportText voices old new rules other → text ≡ other
 
 module _ (have : HasOneCheck) where
-  one_check : (voices : List Voice) (old new rules : List ℕ) → All TellsItsText voices → length old ≤ input_limit → length new ≤ input_limit → AreReadable old new rules
+  one_check : (voices : List Voice) (old new rules : List ℕ) → All TellsItsText voices → length old ≤ input_limit → length new ≤ input_limit → AreReadable check_asks (old ∷ new ∷ rules ∷ [])
       → (v w : Verdict) (text other : List ℕ) → CheckSays voices old new rules v text → CheckSays voices old new rules w other → (v ≡ w) × (text ≡ other)
   one_check voices old new rules decided old_short new_short readable verdict.Yes verdict.Yes text other one two = (refl, have.certificate old new rules text other old_short new_short readable one.1 two.1)
   one_check voices old new rules decided old_short new_short readable verdict.Yes verdict.No text other one two = absurd (two.0 one.0)
@@ -58,6 +59,6 @@ module _ (have : HasOneCheck) where
   check_says_one voices rules_name old_name new_name decided (a ∷ []) short readable v w u x text other one two = absurd one
   check_says_one voices rules_name old_name new_name decided (a ∷ b ∷ []) short readable v w u x text other one two = absurd one
   check_says_one voices rules_name old_name new_name decided (old ∷ new ∷ rules ∷ []) short readable v w u x text other one two =
-      let both = one_check voices old new rules decided short.0 short.1.0 (record { old_readable = readable.0; new_readable = readable.1.0; rules_readable = readable.1.1.0 }) v w text other one.0 two.0 in
+      let both = one_check voices old new rules decided short.0 short.1.0 readable v w text other one.0 two.0 in
       (both.0, one.1 ∙ sym two.1, both.1)
   check_says_one voices rules_name old_name new_name decided (a ∷ b ∷ c ∷ d ∷ more) short readable v w u x text other one two = absurd one

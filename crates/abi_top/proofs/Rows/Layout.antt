@@ -3,7 +3,7 @@ use Rattle.std.proofs.Common.{◌≡◌, ◌≤◌, ℕ, List, [], ◌∷◌, le
 use Rattle.abi_base.specs.Limits.{input_limit}
 use Rattle.abi_base.specs.declared.remark.Remark.{Remark}
 use Rattle.abi_top.specs.Calls.{Call}
-use Rattle.abi_top.specs.Rows.Layout.{LayoutSays, OnLayout, layout_inputs, layout_says}
+use Rattle.abi_top.specs.Rows.Layout.{OnLayout}
 use Rattle.cli_args.specs.Commands.{layout}
 use Rattle.cli_args.specs.ParsedArguments.{request, arguments_by}
 use Rattle.commands.specs.Commands.{asks_of, places_of}
@@ -12,6 +12,7 @@ use Rattle.commands.specs.OneReply.{SaysOne}
 use Rattle.commands.specs.Reading.{Gives}
 use Rattle.commands.specs.declared.verdict.Verdict.{Verdict}
 use Rattle.commands.specs.declared.verdict.Verdict.TheVariants as verdict
+use Rattle.library_layout.specs.Command.{LayoutSays, layout_inputs, layout_says}
 use Rattle.library_layout.specs.Layouts.{HasNoTag, IsLayoutText}
 use Rattle.library_read.specs.Faults.{library_fault}
 

@@ -2,7 +2,6 @@
 use Rattle.std.proofs.Common.{◌≡◌, ℕ, List, [], ◌∷◌, Option, sym, ◌∙◌}
 use Rattle.abi_base.specs.declared.remark.Remark.{Remark}
 use Rattle.abi_top.specs.Calls.{Call, Reads}
-use Rattle.abi_top.specs.Rows.Listings.{IsListed, entries_inputs, entries_says, exports_inputs, exports_says}
 use Rattle.cli_args.specs.Commands.{entries, exports}
 use Rattle.cli_args.specs.ParsedArguments.{request, arguments_by}
 use Rattle.commands.specs.Commands.{asks_of, places_of}
@@ -10,7 +9,10 @@ use Rattle.commands.specs.Faults.{AreReadable}
 use Rattle.commands.specs.OneReply.{SaysOne}
 use Rattle.commands.specs.Reading.{Gives}
 use Rattle.commands.specs.declared.verdict.Verdict.{Verdict}
+use Rattle.listings.specs.Listed.{IsListed}
+use Rattle.listings.specs.entries.Command.{entries_inputs, entries_says}
 use Rattle.listings.specs.entries.EntryLines.{listing_of}
+use Rattle.listings.specs.exports.Command.{exports_inputs, exports_says}
 use Rattle.listings.specs.exports.ExportLines.{exports_text}
 use Rattle.library_read.specs.Libraries.{library_of}
 

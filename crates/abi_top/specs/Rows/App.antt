@@ -1,7 +1,6 @@
 -- `app`: what it reads and says. It says yes with the exports that the application uses, or no with the report on them that
 -- listeners of these voices make.
 use Rattle.std.specs.Prelude.{◌≡◌, ℕ, List, [], ◌∷◌, Option, Some}
-use Rattle.abi_base.specs.declared.limit.Limit.{Limit}
 use Rattle.abi_base.specs.declared.remark.Remark.{Remark}
 use Rattle.abi_top.specs.Calls.{Call, Reads}
 use Rattle.abi_top.specs.Inputs.{library_at, rules_at}
@@ -12,7 +11,6 @@ use Rattle.commands.specs.declared.input.Input.TheVariants.{Old, New, App}
 use Rattle.commands.specs.declared.verdict.Verdict.{Verdict}
 use Rattle.commands.specs.declared.verdict.Verdict.TheVariants.{Yes, No, Refused, Done}
 use Rattle.library_check.specs.Applications.{AgreedFor, IsAppReportText, IsCompatibleFor, KeepsLeavesFor, uses_for}
-use Rattle.library_check.specs.Limits.{AppPasses}
 use Rattle.library_check.specs.Remarks.{remark_on}
 use Rattle.report.specs.Listening.{Voice}
 use Rattle.report.specs.declared.styles.report_option.ReportStyle.{ReportStyle}
@@ -28,10 +26,6 @@ AppSays voices program old new rules Yes text = IsCompatibleFor program old new 
 AppSays voices program old new rules No text = (IsCompatibleFor program old new rules → ⊥) × IsAppReportText voices program old new rules text
 AppSays voices program old new rules Refused text = ⊥
 AppSays voices program old new rules Done text = ⊥
-
-abbrev pub app_passes : List (List ℕ) → Limit → Type 0
-app_passes (program ∷ old ∷ new ∷ rules ∷ []) limit = AppPasses program old new rules limit
-app_passes all limit = ⊥
 
 abbrev pub app_says : List Voice → List (List ℕ) → Verdict → Option Remark → List ℕ → Type 0
 app_says voices (program ∷ old ∷ new ∷ rules ∷ []) v untyped text = AppSays voices program old new rules v text × (untyped ≡ Some (remark_on old new))

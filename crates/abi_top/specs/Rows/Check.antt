@@ -1,7 +1,6 @@
 -- `check`: what it reads and says. It says yes with the certificate, which shows a relation that proves the yes, or no with the
 -- report that listeners of these voices make.
 use Rattle.std.specs.Prelude.{◌≡◌, ℕ, List, [], ◌∷◌, Option, Some}
-use Rattle.abi_base.specs.declared.limit.Limit.{Limit}
 use Rattle.abi_base.specs.declared.remark.Remark.{Remark}
 use Rattle.abi_top.specs.Calls.{Call, Reads}
 use Rattle.abi_top.specs.Inputs.{library_at, rules_at}
@@ -11,7 +10,6 @@ use Rattle.commands.specs.declared.input.Input.TheVariants.{Old, New}
 use Rattle.commands.specs.declared.verdict.Verdict.{Verdict}
 use Rattle.commands.specs.declared.verdict.Verdict.TheVariants.{Yes, No, Refused, Done}
 use Rattle.library_check.specs.Checks.{Agreed, Compatible, IsCertificateText, IsReportText, KeepsLeaves}
-use Rattle.library_check.specs.Limits.{CheckPasses}
 use Rattle.library_check.specs.Relations.{IsRelationText}
 use Rattle.library_check.specs.Remarks.{remark_on}
 use Rattle.report.specs.Listening.{Voice}
@@ -26,10 +24,6 @@ CheckSays voices old new rules Yes text = Compatible old new rules × IsCertific
 CheckSays voices old new rules No text = (Compatible old new rules → ⊥) × IsReportText voices old new rules text
 CheckSays voices old new rules Refused text = ⊥
 CheckSays voices old new rules Done text = ⊥
-
-abbrev pub check_passes : List (List ℕ) → Limit → Type 0
-check_passes (old ∷ new ∷ rules ∷ []) limit = CheckPasses old new rules limit
-check_passes all limit = ⊥
 
 abbrev pub check_says : List Voice → List (List ℕ) → Verdict → Option Remark → List ℕ → Type 0
 check_says voices (old ∷ new ∷ rules ∷ []) v untyped text = CheckSays voices old new rules v text × (untyped ≡ Some (remark_on old new))

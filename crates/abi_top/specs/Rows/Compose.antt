@@ -1,7 +1,6 @@
 -- `compose`: what it reads and says. It says yes with the certificate that both compose, or it is refused with the certificate that
 -- is not accepted, or with what is lost between two accepted ones.
 use Rattle.std.specs.Prelude.{◌≡◌, ◌⊎◌, ℕ, List, [], ◌∷◌, Option, None}
-use Rattle.abi_base.specs.declared.limit.Limit.{Limit}
 use Rattle.abi_base.specs.declared.remark.Remark.{Remark}
 use Rattle.abi_top.specs.Calls.{Call, Reads}
 use Rattle.abi_top.specs.Inputs.{certificate_at, library_at}
@@ -14,7 +13,6 @@ use Rattle.commands.specs.declared.verdict.Verdict.{Verdict}
 use Rattle.commands.specs.declared.verdict.Verdict.TheVariants.{Yes, Refused}
 use Rattle.library_check.specs.Checks.{Agreed, Compatible, KeepsLeaves}
 use Rattle.library_check.specs.Compositions.{PlainFiles, IsComposedText, IsComposition}
-use Rattle.library_check.specs.Limits.{ComposePasses}
 use Rattle.library_check.specs.declared.composing.Composed.{Composed}
 use Rattle.library_check.specs.declared.composing.Composed.TheVariants as composed
 use Rattle.library_check.specs.declared.composing.Composed.TheVariants.{First, Second, Between}
@@ -42,11 +40,6 @@ pub record ComposeSays (files : PlainFiles) (v : Verdict) (text : List ℕ) : Ty
   pub composed : Composed
   pub is : IsComposition files composed
   pub as_text : IsComposedAs composed v text
-
-abbrev pub compose_passes : List (List ℕ) → Limit → Type 0
-compose_passes (first ∷ middle ∷ last ∷ certificate1 ∷ certificate2 ∷ []) limit =
-    ComposePasses (record { first = first; middle = middle; last = last; certificate1 = certificate1; certificate2 = certificate2 }) limit
-compose_passes all limit = ⊥
 
 abbrev pub compose_says : List (List ℕ) → Verdict → Option Remark → List ℕ → Type 0
 compose_says (first ∷ middle ∷ last ∷ certificate1 ∷ certificate2 ∷ []) v untyped text =

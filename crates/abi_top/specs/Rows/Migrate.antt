@@ -1,7 +1,6 @@
 -- `migrate`: what it reads and says. It is done with the migrated certificate if that is accepted, and else it is refused with the
 -- first condition that it does not meet.
 use Rattle.std.specs.Prelude.{◌≡◌, ℕ, List, [], ◌∷◌, Option, None}
-use Rattle.abi_base.specs.declared.limit.Limit.{Limit}
 use Rattle.abi_base.specs.declared.remark.Remark.{Remark}
 use Rattle.abi_top.specs.Calls.{Call, Reads}
 use Rattle.abi_top.specs.Inputs.{library_at, rules_at}
@@ -13,7 +12,6 @@ use Rattle.commands.specs.declared.input.Input.TheVariants.{Old, New, Certificat
 use Rattle.commands.specs.declared.verdict.Verdict.{Verdict}
 use Rattle.commands.specs.declared.verdict.Verdict.TheVariants.{Yes, No, Refused, Done}
 use Rattle.library_check.specs.Checks.{Compatible}
-use Rattle.library_check.specs.Limits.{MigratePasses}
 use Rattle.library_check.specs.Migrations.{IsMigratedText, IsRefusedMigration, old_certificate_fault}
 
 -- the certificate is of version 1
@@ -26,10 +24,6 @@ MigrateSays old new rules certificate Done text = Compatible old new rules × Is
 MigrateSays old new rules certificate Refused text = (refusal : Refusal) × IsRefusedMigration old new rules certificate refusal × (text ≡ refused_text refusal)
 MigrateSays old new rules certificate Yes text = ⊥
 MigrateSays old new rules certificate No text = ⊥
-
-abbrev pub migrate_passes : List (List ℕ) → Limit → Type 0
-migrate_passes (old ∷ new ∷ rules ∷ certificate ∷ []) limit = MigratePasses old new rules certificate limit
-migrate_passes all limit = ⊥
 
 abbrev pub migrate_says : List (List ℕ) → Verdict → Option Remark → List ℕ → Type 0
 migrate_says (old ∷ new ∷ rules ∷ certificate ∷ []) v untyped text = MigrateSays old new rules certificate v text × (untyped ≡ None)

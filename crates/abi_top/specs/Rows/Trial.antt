@@ -1,6 +1,5 @@
 -- `trial`: the two libraries that it generates, and the lines that it says of them.
 use Rattle.std.specs.Prelude.{◌≡◌, ℕ, List, [], ◌∷◌, Option, None}
-use Rattle.abi_base.specs.declared.limit.Limit.{Limit}
 use Rattle.abi_base.specs.declared.remark.Remark.{Remark}
 use Rattle.abi_top.specs.Calls.{Call}
 use Rattle.abi_top.specs.Inputs.{library_at}
@@ -10,7 +9,6 @@ use Rattle.commands.specs.Commands.{Wanted, own}
 use Rattle.commands.specs.declared.input.Input.TheVariants.{Old, New}
 use Rattle.commands.specs.declared.verdict.Verdict.{Verdict}
 use Rattle.commands.specs.declared.verdict.Verdict.TheVariants.{Done}
-use Rattle.library_check.specs.Limits.{TrialPasses}
 use Rattle.library_check.specs.trial.Trials.{IsTrialText}
 use Rattle.trial_libraries.specs.Libraries.{library as made_library}
 use Rattle.trial_libraries.specs.declared.making.Side.TheVariants as side
@@ -24,9 +22,6 @@ pub record IsTried (count : ℕ) (v : Verdict) (untyped : Option Remark) (text :
   pub done : v ≡ Done
   pub none : untyped ≡ None
   pub lines : IsTrialText count text
-
-abbrev pub trial_passes : ℕ → List (List ℕ) → Limit → Type 0
-trial_passes count all limit = TrialPasses count limit
 
 abbrev pub trial_says : ℕ → List (List ℕ) → Verdict → Option Remark → List ℕ → Type 0
 trial_says count all v untyped text = IsTried count v untyped text

@@ -1,7 +1,6 @@
 -- `verify`: what it reads and says. It says yes if the certificate is accepted, and else it is refused with the first condition
 -- that it does not meet.
 use Rattle.std.specs.Prelude.{◌≡◌, ℕ, List, [], ◌∷◌, Option, None}
-use Rattle.abi_base.specs.declared.limit.Limit.{Limit}
 use Rattle.abi_base.specs.declared.remark.Remark.{Remark}
 use Rattle.abi_top.specs.Calls.{Call, Reads}
 use Rattle.abi_top.specs.Inputs.{certificate_at, library_at, rules_at}
@@ -13,7 +12,6 @@ use Rattle.commands.specs.declared.input.Input.TheVariants.{Old, New, Certificat
 use Rattle.commands.specs.declared.verdict.Verdict.{Verdict}
 use Rattle.commands.specs.declared.verdict.Verdict.TheVariants.{Yes, No, Refused, Done}
 use Rattle.library_check.specs.Checks.{Agreed, Compatible, KeepsLeaves}
-use Rattle.library_check.specs.Limits.{VerifyPasses}
 use Rattle.library_check.specs.Relations.{IsRelationText}
 use Rattle.library_check.specs.Verifications.{IsAcceptedText, IsRefusedText}
 
@@ -26,10 +24,6 @@ VerifySays old new rules certificate Yes text = Compatible old new rules × IsAc
 VerifySays old new rules certificate Refused text = (refusal : Refusal) × IsRefusedText old new rules certificate refusal × (text ≡ refused_text refusal)
 VerifySays old new rules certificate No text = ⊥
 VerifySays old new rules certificate Done text = ⊥
-
-abbrev pub verify_passes : List (List ℕ) → Limit → Type 0
-verify_passes (old ∷ new ∷ rules ∷ certificate ∷ []) limit = VerifyPasses old new rules certificate limit
-verify_passes all limit = ⊥
 
 abbrev pub verify_says : List (List ℕ) → Verdict → Option Remark → List ℕ → Type 0
 verify_says (old ∷ new ∷ rules ∷ certificate ∷ []) v untyped text = VerifySays old new rules certificate v text × (untyped ≡ None)

@@ -4,9 +4,10 @@ use Rattle.trial_libraries.specs.declared.making.Side.TheVariants.{Old, New}
 use Rattle.trial_libraries.specs.Libraries.{library}
 use Rattle.report.specs.Listening.{Voice, styled}
 use Rattle.report.specs.declared.style.Style.TheVariants.{Text}
+use Rattle.commands.specs.Faults.{AreReadable}
 use Rattle.library_read.specs.Libraries.{library_of}
-use Rattle.library_check.specs.declared.checking.Unchecked.{Unchecked}
-use Rattle.library_check.specs.Checks.{AreReadable, Compatible, IsCertificateText, IsReportText, IsUnchecked}
+use Rattle.library_check.specs.Checks.{Compatible, IsCertificateText, IsReportText}
+use Rattle.library_check.specs.Inputs.{pair_asks}
 use Rattle.library_check.specs.trial.Summaries.{summary_of}
 
 -- the libraries of the trial
@@ -44,9 +45,5 @@ IsSaid n lines = IsYesText n lines ⊎ IsNoText n lines
 
 -- the libraries of the trial are readable, and these are its lines
 pub record IsTrialText (n : ℕ) (lines : List ℕ) : Type 0 where
-  pub readable : AreReadable (old_library n) (new_library n) []
+  pub readable : AreReadable pair_asks (old_library n ∷ new_library n ∷ [])
   pub said : IsSaid n lines
-
--- why a trial gives no verdict: the same as `check` of the two libraries
-abbrev pub IsUntried : ℕ → Unchecked → Type 0
-IsUntried n unchecked = IsUnchecked (old_library n) (new_library n) [] unchecked

@@ -1,21 +1,23 @@
 // Two generated libraries, and what is said about them.
-ghost use Rattle.std.specs.Prelude.{◌≡◌, ◌≤◌, ◌∷◌, ℕ, List, [], length, map, All, IfOk, IfErr};
+ghost use Rattle.std.specs.Prelude.{◌≡◌, ◌≤◌, ◌∷◌, [], length, map, All, OnOk, IfOk, IfErr};
 ghost use Rattle.abi_base.specs.Limits.{input_limit};
 ghost use Rattle.abi_base.specs.Outcome.{OnLimit};
 ghost use Rattle.abi_base.specs.declared.fault.NoMemory.TheVariants.{Allocation};
 ghost use Rattle.library_read.specs.Libraries.{library_of};
 ghost use Rattle.suppression_text.specs.Rules.{rules_of};
-ghost use Rattle.library_check.specs.Checks.{IsUnchecked};
+ghost use Rattle.commands.specs.Faults.{AreReadable, StopsAt};
+ghost use Rattle.library_check.specs.Inputs.{pair_asks};
 ghost use Rattle.library_check.specs.Judgements.{IsJudged};
-ghost use Rattle.library_check.specs.Limits.{JudgementPasses, OnUnchecked, TrialPasses};
-ghost use Rattle.library_check.specs.trial.Trials.{IsSaid, IsTrialText, IsUntried, new_library, old_library, trial_voices};
+ghost use Rattle.library_check.specs.Limits.{JudgementPasses, TrialPasses};
+ghost use Rattle.library_check.specs.Rows.Trial.{trial_passes};
+ghost use Rattle.library_check.specs.trial.Trials.{IsSaid, IsTrialText, new_library, old_library, trial_voices};
 
 use crate::checking::no_rules;
-use crate::laws::no_rules_are_readable;
 use crate::trial::summary::summarize;
-use crate::{Checked, Unchecked, judge, read_pair};
+use crate::{Checked, judge, read_pair};
 use abi_base::NoMemory;
 use abi_types::{Library, NewIx, OldIx};
+use commands::Stop;
 use report::{Listener, TextListener};
 use std::alloc::Global;
 
@@ -68,23 +70,17 @@ fn try_read(
 /// and the new library, with an empty rule file, the number of exports of the old one, and the number of lines that `check` prints;
 /// the second has the SHA-256 of that text. On no, the text is that of one listener, which makes a line of each break. A fault of a
 /// library, of the old one first, stops the trial as it stops `check`.
-#[tactic(auto, using(crate::proofs::LimitLemmas::pair_tries))]
-pub fn try_libraries(alloc: Global, n: u32, old: &[u8], new: &[u8]) -> Result<Vec<u8>, Unchecked>
+#[tactic(auto, using(crate::proofs::StopLemmas::pair_stops_trial, crate::proofs::StopLemmas::trying_stops_trial))]
+pub fn try_libraries(alloc: Global, n: u32, old: &[u8], new: &[u8]) -> Result<Vec<u8>, Stop>
     requires old { old.now ≡ old_library n }
     requires new { new.now ≡ new_library n }
     requires old_short { length old.now ≤ input_limit }
     requires new_short { length new.now ≤ input_limit }
+    ensures readable { OnOk result (AreReadable pair_asks (old.now ∷ new.now ∷ [])) }
     ensures trial { IfOk result (λ lines. IsTrialText n lines.items) }
-    ensures untried { IfErr result (IsUntried n) }
-    ensures past { IfErr result (λ u. OnUnchecked u (TrialPasses n)) }
+    ensures stops { IfErr result (StopsAt pair_asks (trial_passes n) (old.now ∷ new.now ∷ [])) }
 {
-    no_rules_are_readable();
-    let pair = match read_pair(alloc, old, new) {
-        Ok(pair) => pair,
-        Err(unread) => return Err(unread),
-    };
-    match try_read(alloc, n, &pair.old, &pair.new) {
-        Ok(lines) => Ok(lines),
-        Err(cause) => Err(Unchecked::NoMemory(cause)),
-    }
+    let pair = read_pair(alloc, old, new)?;
+    let lines = try_read(alloc, n, &pair.old, &pair.new)?;
+    Ok(lines)
 }

@@ -1,6 +1,10 @@
+use Rattle.std.proofs.Common.{◌≡◌, [], ◌∷◌, None}
+use Rattle.commands.proofs.lemmas.Stops.{readable_stops}
 use Rattle.library_check.specs.Checks.{sides_of}
+use Rattle.library_check.specs.Rows.Verify.{verify_asks, verify_passes}
+use Rattle.library_check.specs.Verifications.{certificate_fault}
 use Rattle.library_check.specs.declared.verifying.Verified.TheVariants.{Accepted}
-use Rattle.library_check.proofs.Verdicts.{accepted, only_memory}
+use Rattle.library_check.proofs.Verdicts.{accepted}
 use Rattle.library_check.proofs.laws.what_check_prints_is_accepted.Goals as goal
 
 pub returns-clause-readable : goal.returns-clause-readable
@@ -14,5 +18,6 @@ returns-clause-alone c = λ old new rules text said is verified.
     c.a_verification_has_one_answer.ensures old new rules text said Accepted verified (is.proved.compatible, accepted (sides_of old new rules) text is)
 
 pub returns-clause-memory : goal.returns-clause-memory
-returns-clause-memory c = λ old new rules text said readable is unverified.
-    only_memory old new rules text said readable (c.what_is_spelled_has_no_fault.ensures text is.cert is.spelled) unverified
+returns-clause-memory c = λ old new rules text stop readable is stops.
+    let faultless : certificate_fault text ≡ None = c.what_is_spelled_has_no_fault.ensures text is.cert is.spelled in
+    readable_stops verify_asks verify_passes (old ∷ new ∷ rules ∷ text ∷ []) (readable.0, (readable.1.0, (readable.1.1.0, (faultless, tt)))) stop stops

@@ -6,7 +6,7 @@ pub returns-clause-laid : goal.returns-clause-laid
 returns-clause-laid g c = record {
   number = g.Ix.Index.number_of c.args.ix;
   tagged = c.requires;
-  rows = c.in-Ok.rows.items;
-  laid = c.in-Ok.ensures.rows;
-  is = ap (λ v. v.items) c.into_bytes.ensures.value ∙ c.in-Ok-layout_lines.ensures.text ∙ same_text _ _ _ _ c.view.ensures c.as_slice.ensures.value;
+  rows = c.in_ok-rows.rows.items;
+  laid = c.in_ok-rows.ensures.rows;
+  is = ap (λ v. v.items) c.into_bytes.ensures.value ∙ c.in_ok-text.ensures.text ∙ same_text _ _ _ _ c.view.ensures c.as_slice.ensures.value;
 }

@@ -1,4 +1,4 @@
-use Rattle.std.proofs.Common.{◌∷◌, [], inl}
+use Rattle.std.proofs.Common.{[], inl}
 use Rattle.std.proofs.lemmas.List.Elements.{All-cons, All-nil}
 use Rattle.report.specs.Listening.{styled}
 use Rattle.report.specs.declared.style.Style.TheVariants.{Text}
