@@ -1,13 +1,16 @@
 #!/usr/bin/env bash
 # Times `abi exports`, which reads a whole library and prints a short line for each export, and `abi check`, on libraries with debug
-# information: the C library of the running system joined with its debug information, if the packages libc6-dbg and elfutils are
-# installed; libcrypto of OpenSSL, if bench/openssl.sh has built it; and libraries of generated C with 500,000 entries by gcc and clang.
-# Each library is checked against itself, which reads the file once, and against a copy with one more byte, which reads both; all except
-# the first also against a build in which one structure is changed. For comparison it runs readelf --debug-dump=info on one library,
-# sha256sum on both, and abidw and abidiff if they are installed. Prints the seconds of processor time (the least of five runs, or of one
-# for libabigail's tools), ratios, and peak memory. For a library against itself it also measures `abi verify` on the certificate. Then it
-# checks libraries of 1,000, 10,000 and 50,000 exported functions against copies with one more byte, and runs trials of the same sizes, to
-# show how the time grows.
+# information: the C library of the running system, libcrypto of OpenSSL, and generated C with 500,000 entries by gcc and clang. Each
+# library is checked against itself, which reads the file once, and against a copy with one more byte, which reads both; all except the
+# first also against a build in which one structure is changed. The C library of Debian in two versions is checked, too, and a change of
+# 5,000 structures with three styles of reports. For comparison it runs readelf --debug-dump=info on one library, sha256sum on both, and
+# abidw and abidiff if they are installed. Prints the seconds of processor time (the least of five runs, or of one for libabigail's tools),
+# ratios, and peak memory. For a library against itself it also measures `abi verify` on the certificate. Then it checks libraries of 1,000,
+# 10,000 and 50,000 exported functions against themselves and against copies with one more byte, and runs trials of the same sizes, to show
+# how the time grows.
+#
+# bench/measured_libraries.py makes the libraries that are not there yet, which takes some twenty minutes and the network. It prints what
+# each is of, and names those that cannot be had; these are left out.
 #
 # usage: bench/check.sh [ABI]   (default: the program that `rt run` built in crates/abi_cli/out)
 set -eu
@@ -88,31 +91,37 @@ longer() {
     echo longer.so
 }
 
-libc=/lib/x86_64-linux-gnu/libc.so.6
-if [ -e libc.so ] || "$top/tools/join-debug" "$libc" libc.so; then
+# has NAME FILE..: whether libraries are there; says so if they are not.
+has() {
+    local file name=$1
+    shift
+    for file in "$@"; do [ -e "$file" ] || { echo "$name: left out"; return 1; }; done
+}
+
+"$top/bench/measured_libraries.py" || [ $? -eq 2 ]
+
+if has "the C library of the system" libc.so; then
     read_whole "the C library of the system" libc.so
     checked "against itself" 0 libc.so libc.so
     checked "against a copy with one more byte" 0 libc.so "$(longer libc.so)"
     verified "against itself" libc.so libc.so
-else
-    echo "the C library of the system is left out"
 fi
 
-if [ -e openssl.so ] && [ -e openssl_changed.so ]; then
+if has "the C library of Debian in two versions" libc_old.so libc_new.so; then
+    echo "the C library of Debian in two versions"
+    checked "$(cat glibc.of)" 1 libc_old.so libc_new.so
+fi
+
+if has "libcrypto of OpenSSL" openssl.so openssl_changed.so; then
     read_whole "libcrypto of OpenSSL" openssl.so
     checked "against itself" 0 openssl.so openssl.so
     checked "against a copy with one more byte" 0 openssl.so "$(longer openssl.so)"
     verified "against itself" openssl.so openssl.so
     checked "against a changed build" 1 openssl.so openssl_changed.so
-else
-    echo "libcrypto of OpenSSL is left out (bench/openssl.sh builds it)"
 fi
 
-generate_c
 for compiler in gcc clang; do
-    command -v $compiler >/dev/null || { echo "there is no $compiler"; continue; }
-    built "$compiler.so" $compiler groups.c
-    built "${compiler}_changed.so" $compiler changed.c
+    has "generated C by $compiler" "$compiler.so" "${compiler}_changed.so" || continue
     read_whole "generated C by $compiler" "$compiler.so"
     checked "against itself" 0 "$compiler.so" "$compiler.so"
     checked "against a copy with one more byte" 0 "$compiler.so" "$(longer "$compiler.so")"
@@ -120,16 +129,22 @@ for compiler in gcc clang; do
     checked "against a changed build" 1 "$compiler.so" "${compiler}_changed.so"
 done
 
+if has "a change of 5,000 structures" wide_old.so wide_new.so; then
+    echo "a change of 5,000 structures"
+    checked "in full" 1 wide_old.so wide_new.so
+    for style in first counts; do
+        reported=(bash -c "answers 1 '$abi' check --report $style wide_old.so wide_new.so")
+        echo "  --report $style: abi check $(least 5 "${reported[@]}") s, peak $(peak_memory "${reported[@]}") MB"
+    done
+fi
+
 for count in 1000 10000 50000; do
-    awk -v n=$count 'BEGIN {
-        for (i = 0; i < n; i++) {
-            if (i % 20 == 0) printf "struct s%d { int a; struct s%d *next; long b[%d]; };\n", i / 20, i / 20, i % 7 + 1
-            printf "int f%d(struct s%d *p, int x) { return x; }\n", i, i / 20
-        }
-    }' >functions.c
-    built "functions_$count.so" gcc functions.c
-    other=$(longer "functions_$count.so")
-    echo "$count exported functions: abi check $(least 3 "$abi" check "functions_$count.so" "$other") s, peak $(peak_memory "$abi" check "functions_$count.so" "$other") MB"
+    library=functions_$count.so
+    has "$count exported functions" "$library" || continue
+    echo "$count exported functions"
+    for other in "$library" "$(longer "$library")"; do
+        echo "  against $other: abi check $(least 3 "$abi" check "$library" "$other") s, peak $(peak_memory "$abi" check "$library" "$other") MB"
+    done
 done
 
 for count in 1000 10000 50000; do
