@@ -125,6 +125,13 @@ from_pipe "a pipe that closes at once" 2 'unreadable old 1 ShortFile 0\n' 0
 from_pipe "a pipe that closes inside the header" 2 'unreadable old 1 ShortFile 63\n' 63
 from_pipe "a pipe that closes inside the file" 2 'unreadable old 8 SectionTable 40\n' 5000
 from_pipe "a pipe that gives the whole file" 1 "$(sed 's/\\/\\\\/g; s/$/\\n/' no | tr -d '\n')" 1000000
+# The notes, too, come from the bytes that were read: a pipe gives them once.
+ABI_NOTES=1 "$program" check old.so new.so >/dev/null 2>notes || true
+cat old.so >pipe &
+ABI_NOTES=1 timeout 60 "$program" check pipe new.so >/dev/null 2>notes_of_pipe || true
+wait
+[ -s notes ] && sed 's/pipe/old.so/' notes_of_pipe | cmp -s - notes || fail "the notes on a pipe are not those on the file"
+passed "the notes on a pipe are those on the file"
 run exports /dev/null
 gives "an empty device" 2 'unreadable library 1 ShortFile 0\n'
 passed "an empty device"

@@ -85,6 +85,7 @@ program_of abi_json 64 "${ABI_JSON:-}"
 program=$found tool=abi-json
 export ABI_NOTES=1
 refused "the document of a yes" 0 check old.so old.so
+refused "the document of a no" 1 check old.so new.so
 refused "the document of a yes with a rule file" 0 --rules rules check old.so new.so
 refused "the document of an unreadable library" 2 exports cut.so
 refused "the notes" 0 notes old.so new.so

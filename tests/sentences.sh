@@ -162,10 +162,10 @@ done
 says 2 "f.c: it is not an ELF file" exports f.c
 head -c 20 plain.so >short.so
 says 2 "short.so: it ends inside its ELF header" exports short.so
-# A pipe can be read only once, so the program must not open it again for the sentence.
+# A pipe gives its bytes once: the sentence comes from those that were judged.
 mkfifo pipe
 cat f.a >pipe &
-says 2 "pipe: it is not an ELF file" exports pipe
+says 2 "pipe: it is a static archive; give the shared object (.so) itself" exports pipe
 says 2 "f.o: it is an object file (.o), not a shared object" exports f.o
 echo 'int main(void) { return 0; }' | gcc -no-pie -o program -x c -
 says 2 "program: it is an executable at a fixed address (compiled with -no-pie), not a shared object or a position-independent executable" exports program
@@ -382,11 +382,11 @@ rule 4 "$no_property: type_kind = struct; $of_exports" '[suppress_type]\nname = 
 rule 2 "$no_property: type_kind = class; the values of type_kind are struct, union, enum, typedef and builtin" '[suppress_type]\ntype_kind = class\n'
 rule 2 "$no_property: accessed_through = reference; the values of accessed_through are direct and pointer" '[suppress_type]\naccessed_through = reference\n'
 rule 1 "there is no section of this name: [$(printf 'a%.0s' $(seq 59))..; the sections are suppress_function, suppress_variable and suppress_type" "[$(printf 'a%.0s' $(seq 99))]\n"
-# The rules of a pipe cannot be read again, so they are not quoted.
+# The rules of a pipe are quoted as those of a file.
 printf '[suppress_nothing]\n' >pipe &
-says 2 "pipe: line 1: there is no section of this name" check --rules pipe plain.so plain.so
+says 2 "pipe: line 1: there is no section of this name: [suppress_nothing]; the sections are suppress_function, suppress_variable and suppress_type" check --rules pipe plain.so plain.so
 printf '[suppress_type]\nnothing = a\n' >pipe &
-says 2 "pipe: line 2: $no_property" check --rules pipe plain.so plain.so
+says 2 "pipe: line 2: $no_property: nothing = a; $of_types" check --rules pipe plain.so plain.so
 rule 1 "the section says nothing of what it leaves out" '[suppress_type]\n'
 rule 2 "the pattern is no regular expression" '[suppress_type]\nname_regexp = (\n'
 rule 2 "the pattern has more than 256 bytes" "[suppress_type]\nname_regexp = $(printf 'a%.0s' $(seq 257))\n"

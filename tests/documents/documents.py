@@ -5,10 +5,13 @@ usage: documents.py PROGRAM SCHEMA FOLDER COMPILER..
 
 from __future__ import annotations
 
+import hashlib
 import json
 import os
 import subprocess
 import sys
+import tempfile
+import threading
 from pathlib import Path
 from typing import Any, Iterator
 
@@ -100,6 +103,21 @@ def hold_member_types(document: dict[str, Any]) -> None:
         assert names in (["int", "long"], ["int", "long int"]), (row, names)
 
 
+def hold_pipes(documents: Documents, old: Path, new: Path) -> None:
+    """Checks that the document of a library that comes through a pipe, which gives its bytes once, is that of the file."""
+    whole = documents.of("check", old, new, ABI_NOTES="1")
+    with tempfile.TemporaryDirectory() as folder:
+        pipe = Path(folder, "pipe")
+        os.mkfifo(pipe)
+        writer = threading.Thread(target=pipe.write_bytes, args=(old.read_bytes(),), daemon=True)
+        writer.start()
+        piped = documents.of("check", pipe, new, ABI_NOTES="1")
+        writer.join(timeout=10)
+    assert [one["sha256"] for one in piped["inputs"]] == [hashlib.sha256(path.read_bytes()).hexdigest() for path in (old, new)], piped
+    for member in ("answer", "breaks", "side_notes", "places", "types", "untyped"):
+        assert piped[member] == whole[member], (member, piped, whole)
+
+
 def hold_notes(documents: Documents, old: Path, new: Path) -> None:
     """Checks that `abi-json notes` gives the same notes as `check`, and that without digests the inputs are otherwise the same."""
     noted = documents.of("check", old, new, ABI_NOTES="1")
@@ -181,6 +199,7 @@ def main() -> None:
                 assert documents.of("check", old, old)["answer"] == "yes"
                 assert documents.of("exports", old)["answer"] == "done"
     hold_notes(documents, old, new)
+    hold_pipes(documents, old, new)
     held += hold_orders(documents, old, new, work / "rules")
     assert documents.of("check", old, work / "missing")["answer"] == "read fault"
     assert documents.of("check", old, __file__)["answer"] == "unreadable"

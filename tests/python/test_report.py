@@ -510,19 +510,29 @@ def test_a_note_counts_for_all_breaks_of_its_two_types(project: Project, monkeyp
     assert [one["exports"] for one in told["exports"]] == [["table"]], told
 
 
-def test_the_program_is_asked_for_notes_or_not(project: Project, monkeypatch: pytest.MonkeyPatch) -> None:
-    """Notes come from a run of their own. The run for the answer leaves them and the digests out."""
+def test_one_run_makes_the_whole_document(project: Project, monkeypatch: pytest.MonkeyPatch) -> None:
+    """With the notes and the digests that are shown."""
     old = project.build("old")
     stand_in(project, monkeypatch, breaks=[])
     asked = project.folder / "asked"
     program = project.folder / "stand_in"
     program.write_text(program.read_text().replace("cat", f"echo $1 $ABI_NOTES $ABI_DIGESTS >>'{asked}'\ncat", 1))
     monkeypatch.setenv("ABI_NOTES", "1")
-    for options in ((), ("--fast",), ("--quiet",)):
+    for options, line in (((), "check 1 0"), (("--fast",), "check 0 0"), (("--quiet",), "check 0 0"), (("--quiet", "--strict"), "check 1 0"),
+                          (("--format", "json"), "check 1 1"), (("--format", "html", "--fast"), "check 0 1")):
         asked.write_text("")
         report(*options, old, old)
-        lines = sorted(asked.read_text().splitlines())
-        assert lines == ["check 0 0", *(["notes 1"] if not options else [])], (options, lines)
+        assert asked.read_text().splitlines() == [line], (options, asked.read_text())
+
+
+def test_a_report_says_why_it_has_no_notes(project: Project, monkeypatch: pytest.MonkeyPatch) -> None:
+    """If they would pass a limit, the report says so, and a strict yes is none."""
+    old = project.build("old")
+    missing = "this passes the limit Notes"
+    stand_in(project, monkeypatch, breaks=[], missing_side_notes=missing)
+    assert f"there are no notes: {missing}" in report(old, old).out
+    stand_in(project, monkeypatch, breaks=[], missing_side_notes=missing, answer="yes", status=0, text="")
+    assert report("--strict", old, old).status == 2
 
 
 def test_successors_of_notes_stand_in_place_of_a_search(project: Project, monkeypatch: pytest.MonkeyPatch) -> None:

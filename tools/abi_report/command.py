@@ -9,7 +9,7 @@ from abi_tools.arguments import Arguments, add_require_types, add_strict
 from abi_tools.faults import Fault
 from abi_tools.output_file import clear_output
 
-from abi_report.runs import AbiJson, Digests
+from abi_report.runs import AbiJson
 
 _DESCRIPTION = """\
 Says whether a new build of a library may replace an old one, and what changed: a block for each changed type, with the lines of the
@@ -38,8 +38,9 @@ def main(arguments: Sequence[str]) -> int:
     if given.rules is not None:
         # a rule file that cannot be opened ends the run with the words of the system
         given.rules.open("rb").close()
-    with AbiJson().started(given.old, given.new, given.rules, given.strict or not (given.fast or given.quiet)) as running:
-        digests = None if given.quiet or given.format == "text" else Digests(inputs)
+    with_notes = given.strict or not (given.fast or given.quiet)
+    with_digests = not (given.quiet or given.format == "text")
+    with AbiJson().started(given.old, given.new, given.rules, with_notes, with_digests) as running:
         # The program judges while Python imports the rest of this tool and begins to read the libraries.
         from abi_report.reporting import Wanted, reported
         from abi_report.rule_sections import Headers
@@ -47,7 +48,7 @@ def main(arguments: Sequence[str]) -> int:
         headers = Headers.of(given.headers, given.dev)
         wanted = Wanted(given.old, given.new, headers, given.require_types, given.certificate, given.format, given.quiet,
                         given.all, not (given.fast or given.quiet or given.rules), given.strict)
-        return int(reported(running, digests, wanted))
+        return int(reported(running, wanted))
 
 
 def _parser() -> Arguments:

@@ -14,8 +14,6 @@ from abi_report.texts_shown import path_shown
 
 Json = dict[str, Any]
 FORMAT = 1
-# The exit statuses of yes and no.
-_JUDGED = (0, 1)
 # The kinds of notes that belong to breaks: another export that reaches the types of a break, and a likely successor of an export that
 # is gone.
 _AFFECTED = "affected export"
@@ -209,15 +207,14 @@ def _parsed(text: bytes) -> Json:
 
 
 def read_document(running: Running) -> Document:
-    """The document that a run prints, with the notes if two libraries were judged. Raises a fault if it is not a document of the known
-    format."""
+    """The document that a run prints. Raises a fault if it is not a document of the known format."""
     whole = _parsed(running.printed())
-    if whole.get("status") in _JUDGED and (notes := running.noted()) is not None:
-        whole["side_notes"] = _parsed(notes).get("side_notes")
     try:
         breaks = tuple(map(_break, whole["breaks"]))
         found = whole.get("side_notes")
         sentences = [Note(str(one)) for one in whole.get("notes") or ()]
+        if (missing := whole.get("missing_side_notes")) is not None:
+            sentences.append(Note(f"there are no notes: {missing}"))
         beside = [_note(one) for one in found or () if one["kind"] != _AFFECTED]
         return Document(whole, breaks if found is None else _with_exports(breaks, found), (*sentences, *_shown(breaks, beside)))
     except (ValueError, KeyError, TypeError, AttributeError) as error:

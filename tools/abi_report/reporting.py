@@ -11,11 +11,11 @@ from typing import Callable, Iterator, Optional
 from abi_tools.output_file import write_whole
 from abi_tools.verdicts import Verdict
 
-from abi_report.documents import Document, read_document
+from abi_report.documents import read_document
 from abi_report.judging import judge_document, judge_strictly
 from abi_report.reports import Report
 from abi_report.rule_sections import Headers
-from abi_report.runs import Digests, Running
+from abi_report.runs import Running
 from abi_report.subjects import Library
 
 Write = Callable[[Report], None]
@@ -41,7 +41,7 @@ class Wanted:
     is_strict: bool = False
 
 
-def reported(running: Running, digests: Optional[Digests], wanted: Wanted) -> Verdict:
+def reported(running: Running, wanted: Wanted) -> Verdict:
     """Writes the report of a run, and returns the verdict."""
     write = writer_of(wanted.form, wanted.quiet, wanted.is_whole)
     libraries = (Library(wanted.old), Library(wanted.new))
@@ -49,8 +49,6 @@ def reported(running: Running, digests: Optional[Digests], wanted: Wanted) -> Ve
         for library in libraries:
             library.prepare()
     document = read_document(running)
-    if digests is not None:
-        _put_digests(document, digests)
     judged = judge_document(document, wanted.old, wanted.new, wanted.require_types)
     if wanted.is_strict:
         judged = judge_strictly(judged, document)
@@ -59,12 +57,6 @@ def reported(running: Running, digests: Optional[Digests], wanted: Wanted) -> Ve
         write_whole(wanted.certificate, document.text.encode())
     write(report)
     return judged.verdict
-
-
-def _put_digests(document: Document, digests: Digests) -> None:
-    """Adds the digests of the inputs, which `abi-json` left out as requested."""
-    for one in document.whole["inputs"]:
-        one["sha256"] = one["sha256"] or digests.of(one["name"])
 
 
 def writer_of(form: str, quiet: bool, is_whole: bool = False) -> Write:

@@ -1,48 +1,36 @@
 // The notes on differences that no rule judges, printed on standard error beside the answer of `check`.
-ghost use Rattle.std.specs.Prelude.{◌≤◌, length, IfOk};
-ghost use Rattle.abi_base.specs.Limits.{input_limit};
-
 use crate::notes::bytes_of;
 use abi_base::{NoMemory, Remark, SizedExports};
 use abi_top::{Ended, Input, Outcome};
 use cli_args::{ParsedArguments, Request, parse_arguments};
-use explain::name_of;
 use side_notes::{Beside, Counts, all_beside, note_text};
 use std::alloc::{AllocError, Global};
 use std::env;
-use std::rt::{Env, Files};
+use std::env::VarError;
+use std::rt::Env;
 
-/// Whether such notes are wanted: standard error is a terminal, or the environment variable `ABI_NOTES` is 1.
-pub(crate) fn are_wanted<R: Env + AllocGlobal>(rt: &R, is_terminal: bool) -> bool {
+/// Whether such notes are wanted: standard error is a terminal, or the environment variable `ABI_NOTES` is 1. It fails only if
+/// memory runs out.
+pub(crate) fn are_wanted<R: Env + AllocGlobal>(
+    rt: &R,
+    is_terminal: bool,
+) -> Result<bool, NoMemory> {
     if is_terminal {
-        return true;
+        return Ok(true);
     }
     match env::var(rt, "ABI_NOTES") {
-        Ok(value) => value.as_str() == "1",
-        Err(_) => false,
+        Ok(value) => Ok(value.as_str() == "1"),
+        Err(VarError::OutOfMemory) => Err(NoMemory::Allocation),
+        Err(_) => Ok(false),
     }
 }
 
-// The bytes of an input, or none if it was not read under a name.
-fn input_bytes<R: Files + AllocGlobal>(
-    rt: &R,
-    ended: &Ended<'_>,
-    which: Input,
-) -> Result<Vec<u8>, NoMemory>
-    ensures { IfOk result (λ bytes. length bytes.items ≤ input_limit) }
-{
-    match name_of(&ended.files, which) {
-        Some(path) => bytes_of(rt, path),
-        None => Ok(Vec::new(rt.alloc())),
-    }
-}
-
-// The notes beside a verdict, from the inputs that were read.
-fn beside_of_inputs<R: Files + AllocGlobal>(rt: &R, ended: &Ended<'_>) -> Result<Beside, NoMemory> {
-    let old = input_bytes(rt, ended, Input::Old)?;
-    let new = input_bytes(rt, ended, Input::New)?;
-    let rules = input_bytes(rt, ended, Input::Rules)?;
-    all_beside(rt.alloc(), &old, &new, &rules)
+// The notes beside a verdict, from the bytes that were judged.
+fn beside_of_inputs(alloc: Global, ended: &Ended<'_>) -> Result<Beside, NoMemory> {
+    let old = bytes_of(ended, Input::Old);
+    let new = bytes_of(ended, Input::New);
+    let rules = bytes_of(ended, Input::Rules);
+    all_beside(alloc, old, new, rules)
 }
 
 // The number of exports with a nonzero size that have a type.
@@ -100,19 +88,19 @@ fn lines_of(alloc: Global, beside: &Beside, remark: Option<Remark>) -> Result<Ve
 }
 
 /// The notes as lines, followed by two lines of counts, if `check` judged two libraries; else nothing.
-pub(crate) fn text_beside<R: Files + AllocGlobal>(
-    rt: &R,
+pub(crate) fn text_beside(
+    alloc: Global,
     words: &[&str],
     ended: &Ended<'_>,
 ) -> Result<Vec<u8>, NoMemory> {
     let Outcome::Judged(_, remark) = ended.outcome else {
-        return Ok(Vec::new(rt.alloc()));
+        return Ok(Vec::new(alloc));
     };
-    match parse_arguments(rt.alloc(), words)? {
+    match parse_arguments(alloc, words)? {
         ParsedArguments::Request(Request::Check(_)) => {
-            let beside = beside_of_inputs(rt, ended)?;
-            lines_of(rt.alloc(), &beside, remark)
+            let beside = beside_of_inputs(alloc, ended)?;
+            lines_of(alloc, &beside, remark)
         }
-        _ => Ok(Vec::new(rt.alloc())),
+        _ => Ok(Vec::new(alloc)),
     }
 }

@@ -5,14 +5,15 @@
 mod beside;
 mod notes;
 mod output;
+mod styles;
 
 use crate::beside::{are_wanted, text_beside};
 use crate::notes::notes_of;
 use crate::output::Output;
+use crate::styles::run_in_styles;
 use abi_base::{FileInputs, NoMemory};
 use abi_top::{Ended, Outcome, run};
 use explain::{encoding_sentence, memory_sentence};
-use report::{CountsListener, FirstListener, Listener, TableListener, TextListener, add_listener};
 use std::io::{ErrorKind, IsTerminal};
 use std::process::ExitCode;
 use std::rt::{Env, Files};
@@ -31,7 +32,7 @@ fn outcome_of_process<R: Files + Print + Eprint + Env + AllocGlobal>(
         Ok(arguments) => arguments,
         Err(error) => return outcome_without_arguments(rt, &error),
     };
-    match outcome_of(rt, &arguments, are_wanted(rt, is_terminal)) {
+    match outcome_of(rt, &arguments, is_terminal) {
         Ok(outcome) => outcome,
         Err(cause) => Outcome::NoMemory(cause),
     }
@@ -72,15 +73,13 @@ fn arguments_of<R: Env + AllocGlobal>(rt: &R) -> io::Result<Vec<String>> {
     Ok(arguments)
 }
 
-// The number of rows that the style `first` prints.
-const FIRST_ROWS: u32 = 10;
-
 // Runs the arguments.
-fn outcome_of<R: Files + Print + Eprint + AllocGlobal>(
+fn outcome_of<R: Files + Print + Eprint + Env + AllocGlobal>(
     rt: &R,
     arguments: &[String],
-    with_notes: bool,
+    is_terminal: bool,
 ) -> Result<Outcome, NoMemory> {
+    let with_notes = are_wanted(rt, is_terminal)?;
     let mut words = Vec::new(rt.alloc());
     for argument in arguments {
         words.push(argument.as_str())?;
@@ -88,25 +87,15 @@ fn outcome_of<R: Files + Print + Eprint + AllocGlobal>(
     run_words(rt, &words, with_notes)
 }
 
-// Runs the arguments with a listener for each style of a report except `own`, and prints what there is to tell beside the answer.
-// The listeners are made in this function, because a contract can promise nothing about listeners that a function returns.
+// Runs the arguments, and prints what there is to tell beside the answer.
 fn run_words<R: Files + Print + Eprint + AllocGlobal>(
     rt: &R,
     words: &[&str],
     with_notes: bool,
 ) -> Result<Outcome, NoMemory> {
-    let alloc = rt.alloc();
-    let mut listeners: Vec<Box<dyn Listener>> = Vec::new(alloc);
-    add_listener(&mut listeners, Box::new(alloc, TextListener::new(alloc))?)?;
-    add_listener(&mut listeners, Box::new(alloc, TableListener::new(alloc))?)?;
-    add_listener(&mut listeners, Box::new(alloc, CountsListener::new(alloc))?)?;
-    add_listener(
-        &mut listeners,
-        Box::new(alloc, FirstListener::new(alloc, FIRST_ROWS))?,
-    )?;
     let mut inputs = FileInputs::new(rt);
     let mut sink = Output::new(rt);
-    let ended = run(alloc, words, &mut inputs, &mut sink, listeners);
+    let ended = run_in_styles(rt.alloc(), words, &mut inputs, &mut sink)?;
     // Nothing is told if the reader closed the pipe.
     if !sink.is_closed() {
         tell(rt, words, &ended, sink.first());
@@ -128,8 +117,8 @@ fn tell<R: Files + Eprint + AllocGlobal>(rt: &R, words: &[&str], ended: &Ended<'
 }
 
 // Prints on standard error the differences that no rule judges, or why they are not known. If that fails, the answer does not change.
-fn tell_notes<R: Files + Eprint + AllocGlobal>(rt: &R, words: &[&str], ended: &Ended<'_>) {
-    match text_beside(rt, words, ended) {
+fn tell_notes<R: Eprint + AllocGlobal>(rt: &R, words: &[&str], ended: &Ended<'_>) {
+    match text_beside(rt.alloc(), words, ended) {
         Ok(bytes) => {
             if let Ok(text) = str::from_utf8(&bytes) {
                 let _ = eprint!(rt; "{text}");

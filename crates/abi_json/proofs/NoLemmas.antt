@@ -22,7 +22,7 @@ use Rattle.json_report.specs.Breaks.{breaks_text, json_voice, with_member}
 use Rattle.commands.specs.declared.outcome.Outcome.{Outcome}
 use Rattle.commands.specs.declared.outcome.Outcome.TheVariants as outcome
 use Rattle.commands.specs.declared.verdict.Verdict.TheVariants as verdict
-use Rattle.abi_json.specs.Documents.{HasBreaks, IsDocument, TellsBreaks}
+use Rattle.abi_json.specs.Documents.{HasBreaks, IsDocument, TellsBreaks, breaks_of, unclosed}
 
 -- what this listener alone makes of rows
 one_text : (rows : List Row) (texts : List (List ℕ)) → Reports (json_voice ∷ []) rows texts → concat texts ≡ breaks_text rows
@@ -103,8 +103,22 @@ only_voice {B = B} voice old new b none added is = ap (map voice) (added ∙ ap 
 
 -- The clause of a run with this listener alone, and the document of its text.
 pub told : (call_with : List Voice → Call) (voices : List Voice) → ((v : List Voice) → (call_with v).voices ≡ v) → voices ≡ json_voice ∷ []
-    → (before after : Option (List ℕ)) (held document : List ℕ) (ended : Outcome) (untyped : Option Remark) → ended ≡ outcome.Judged verdict.No untyped → before ≡ Some [] → after ≡ Some held
-    → IsDocument ended held document → SaysNo (call_with voices) before after untyped → TellsBreaks (call_with (json_voice ∷ [])) document
-told call_with voices are alone before after held document ended untyped ends nothing now is says =
-    tells (call_with (json_voice ∷ [])) (are (json_voice ∷ [])) before after held document untyped nothing now (subst (λ (o : Outcome). IsDocument o held document) ends is)
+    → (before after : Option (List ℕ)) (held document : List ℕ) (untyped : Option Remark) → before ≡ Some [] → after ≡ Some held
+    → EndsWith held document → SaysNo (call_with voices) before after untyped → TellsBreaks (call_with (json_voice ∷ [])) document
+told call_with voices are alone before after held document untyped nothing now ends says =
+    tells (call_with (json_voice ∷ [])) (are (json_voice ∷ [])) before after held document untyped nothing now ends
     (subst (λ (v : List Voice). SaysNo (call_with v) before after untyped) alone says)
+
+-- on no the document ends with what stands behind the line `no`
+pub ends_with : (words : List (List ℕ)) (ended : Outcome) (untyped : Option Remark) (held document : List ℕ) → ended ≡ outcome.Judged verdict.No untyped → IsDocument words ended held document → EndsWith held document
+ends_with words ended untyped held document ends is =
+    (unclosed is.head_text, is.is ∙ ap (λ (o : Outcome). with_member (unclosed is.head_text) (codes "breaks") (breaks_of o held)) ends)
+
+-- What is promised of the call with these voices and of what a sink that held nothing holds now, said of the call with this listener and
+-- of the bytes that are held.
+pub moved : (P : Call → Option (List ℕ) → Option (List ℕ) → Type 0) (call_with : List Voice → Call) (voices : List Voice) → voices ≡ json_voice ∷ []
+    → (before after : Option (List ℕ)) (held : List ℕ) → before ≡ Some [] → after ≡ Some held
+    → P (call_with voices) before after → P (call_with (json_voice ∷ [])) (Some []) (Some held)
+moved P call_with voices alone before after held nothing now is =
+    subst (λ (o : Option (List ℕ)). P (call_with (json_voice ∷ [])) (Some []) o) now
+    (subst (λ (o : Option (List ℕ)). P (call_with (json_voice ∷ [])) o after) nothing (subst (λ (vs : List Voice). P (call_with vs) before after) alone is))

@@ -8,7 +8,7 @@ use crate::document::document_of;
 use crate::told::Told;
 use abi_base::NoMemory;
 use cli_args::{GivenLine, ParsedArguments, line_given, parse_arguments};
-use commands::{File, Input, Outcome, Stop, Verdict, stop_at};
+use commands::{File, Input, Outcome, ReadInputs, Stop, Verdict, stop_at};
 use document_head::{Ending, Wanted, bytes_of};
 use library_check::read_pair;
 use std::alloc::Global;
@@ -94,23 +94,25 @@ fn bytes_in<R: Files + AllocGlobal>(
     Ok(Vec::new(rt.alloc()))
 }
 
-// The bytes of the inputs of a `check`.
-#[derive(Drop)]
-struct CheckInputs {
-    old: Vec<u8>,
-    new: Vec<u8>,
-    rules: Vec<u8>,
-}
-
 // Reads the inputs of a `check`, or returns why one cannot be read.
-fn inputs_in<R: Files + AllocGlobal>(rt: &R, files: &[File<'_>]) -> Result<CheckInputs, Stop>
-    ensures old { IfOk result (λ inputs. length inputs.old.items ≤ input_limit) }
-    ensures new { IfOk result (λ inputs. length inputs.new.items ≤ input_limit) }
-{
+fn inputs_in<R: Files + AllocGlobal>(rt: &R, files: &[File<'_>]) -> Result<ReadInputs, Stop> {
     let old = bytes_in(rt, files, Input::Old)?;
     let new = bytes_in(rt, files, Input::New)?;
     let rules = bytes_in(rt, files, Input::Rules)?;
-    Ok(CheckInputs { old, new, rules })
+    Ok(ReadInputs {
+        roles: vec![in rt.alloc(); Input::Old, Input::New, Input::Rules]?,
+        all: vec![in rt.alloc(); old, new, rules]?,
+    })
+}
+
+// The bytes that were read of an input, or none.
+fn bytes_read(read: &ReadInputs, which: Input) -> &[u8]
+    ensures { length result.now ≤ input_limit }
+{
+    match read.bytes_of(which) {
+        Some(bytes) => bytes,
+        None => &[],
+    }
 }
 
 // Whether there are no notes. Files with a fault have none, and neither have many good ones.
@@ -133,12 +135,14 @@ fn read_all(alloc: Global, old: &[u8], new: &[u8], rules: &[u8]) -> Result<(), S
     }
 }
 
-// The notes on files. Only if there are none, it reads the files for the fault that may be the cause.
-fn notes_on_files<R: Files + AllocGlobal>(rt: &R, files: &[File<'_>]) -> Result<SideNotes, Stop> {
-    let CheckInputs { old, new, rules } = inputs_in(rt, files)?;
-    let notes = notes_value(rt.alloc(), &old, &new, &rules)?;
+// The notes on files. Only if there are none, it reads the libraries for the fault that may be the cause.
+fn notes_on_files(alloc: Global, read: &ReadInputs) -> Result<SideNotes, Stop> {
+    let old = bytes_read(read, Input::Old);
+    let new = bytes_read(read, Input::New);
+    let rules = bytes_read(read, Input::Rules);
+    let notes = notes_value(alloc, old, new, rules)?;
     if are_none(&notes) {
-        read_all(rt.alloc(), &old, &new, &rules)?;
+        read_all(alloc, old, new, rules)?;
     }
     Ok(notes)
 }
@@ -151,44 +155,80 @@ fn text_of(outcome: Outcome) -> &'static [u8] {
     }
 }
 
-// The document of notes, or of the reason why there are none, with these files.
-fn told_with<R: Files + AllocGlobal>(
-    rt: &R,
-    words: &[&str],
-    files: &[File<'_>],
-    notes: SideNotes,
+// How the making of notes ended, with these files.
+fn ending_of<'e>(
+    words: &'e [&'e str],
     outcome: Outcome,
-) -> Result<Told, NoMemory> {
-    let ending = Ending {
+    files: &'e [File<'e>],
+    read: &'e ReadInputs,
+) -> Ending<'e> {
+    Ending {
         words,
         outcome,
         files,
         text: text_of(outcome),
+        read,
         wanted: Wanted {
             notes: true,
             digests: false,
         },
-    };
-    let document = document_of(rt, &ending, notes)?;
+    }
+}
+
+// The document of notes, or of the reason why there are none.
+fn told_with(alloc: Global, ending: &Ending<'_>, notes: SideNotes) -> Result<Told, NoMemory> {
+    let outcome = ending.outcome;
+    let document = document_of(alloc, ending, notes)?;
     Ok(Told { outcome, document })
 }
 
-// The document of the notes on files, or of the reason why they cannot be read. That of notes leaves out the files, which are in the
-// document of the answer.
+// The document of the notes on files that were read. It leaves out the files, which are in the document of the answer.
+fn told_of_notes(alloc: Global, words: &[&str], notes: SideNotes) -> Result<Told, NoMemory> {
+    let read = ReadInputs::none(alloc);
+    let ending = ending_of(words, Outcome::Judged(Verdict::Done, None), &[], &read);
+    told_with(alloc, &ending, notes)
+}
+
+// The document of the reason why there are no notes on files.
+fn told_stopped(
+    alloc: Global,
+    words: &[&str],
+    files: &[File<'_>],
+    read: &ReadInputs,
+    stop: Stop,
+) -> Result<Told, NoMemory> {
+    let outcome = match stop {
+        Stop::NoMemory(cause) => return Err(cause),
+        Stop::ReadFault(which) => Outcome::ReadFault(which),
+        Stop::Unreadable(which, fault) => Outcome::Unreadable(which, fault),
+    };
+    let ending = ending_of(words, outcome, files, read);
+    told_with(alloc, &ending, SideNotes::none())
+}
+
+// The document of the notes on files, or of the reason why they cannot be read.
 fn told_on<R: Files + AllocGlobal>(
     rt: &R,
     words: &[&str],
     files: &[File<'_>],
 ) -> Result<Told, NoMemory> {
-    let outcome = match notes_on_files(rt, files) {
-        Ok(notes) => {
-            return told_with(rt, words, &[], notes, Outcome::Judged(Verdict::Done, None));
-        }
-        Err(Stop::NoMemory(cause)) => return Err(cause),
-        Err(Stop::ReadFault(which)) => Outcome::ReadFault(which),
-        Err(Stop::Unreadable(which, fault)) => Outcome::Unreadable(which, fault),
+    let alloc = rt.alloc();
+    let read = match inputs_in(rt, files) {
+        Ok(read) => read,
+        Err(stop) => return told_stopped(alloc, words, files, &ReadInputs::none(alloc), stop),
     };
-    told_with(rt, words, files, SideNotes::none(), outcome)
+    match notes_on_files(alloc, &read) {
+        Ok(notes) => told_of_notes(alloc, words, notes),
+        Err(stop) => told_stopped(alloc, words, files, &read, stop),
+    }
+}
+
+// The document of arguments that name no files.
+fn told_without_files(alloc: Global, words: &[&str]) -> Result<Told, NoMemory> {
+    let read = ReadInputs::none(alloc);
+    let outcome = outcome_without_files(alloc, words)?;
+    let ending = ending_of(words, outcome, &[], &read);
+    told_with(alloc, &ending, SideNotes::none())
 }
 
 /// The document of the notes on the libraries that the arguments name.
@@ -199,9 +239,6 @@ pub(crate) fn notes_told<R: Files + AllocGlobal>(rt: &R, words: &[&str]) -> Resu
     };
     match files {
         Some(files) => told_on(rt, words, &files),
-        None => {
-            let outcome = outcome_without_files(rt.alloc(), words)?;
-            told_with(rt, words, &[], SideNotes::none(), outcome)
-        }
+        None => told_without_files(rt.alloc(), words),
     }
 }

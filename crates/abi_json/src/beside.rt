@@ -10,7 +10,6 @@ use explain::memory_sentence;
 use serde_json::{Map, Value, put};
 use side_notes::all_notes;
 use std::alloc::{AllocError, Global};
-use std::rt::Files;
 use std::str;
 use type_notes::Note;
 
@@ -114,15 +113,12 @@ pub(crate) fn notes_value(
 }
 
 /// The notes on two libraries that `check` judged. There are none if they are not wanted.
-pub(crate) fn side_notes_of<R: Files + AllocGlobal>(
-    rt: &R,
-    ending: &Ending<'_>,
-) -> Result<SideNotes, NoMemory> {
-    if !ending.wanted.notes || !is_judged_check(rt.alloc(), ending)? {
+pub(crate) fn side_notes_of(alloc: Global, ending: &Ending<'_>) -> Result<SideNotes, NoMemory> {
+    if !ending.wanted.notes || !is_judged_check(alloc, ending)? {
         return Ok(SideNotes::none());
     }
-    let old = input_bytes(rt, ending, Input::Old)?;
-    let new = input_bytes(rt, ending, Input::New)?;
-    let rules = input_bytes(rt, ending, Input::Rules)?;
-    notes_value(rt.alloc(), &old, &new, &rules)
+    let old = input_bytes(ending, Input::Old);
+    let new = input_bytes(ending, Input::New);
+    let rules = input_bytes(ending, Input::Rules);
+    notes_value(alloc, old, new, rules)
 }

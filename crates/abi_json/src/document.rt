@@ -2,15 +2,14 @@
 ghost use Rattle.std.specs.Prelude.{◌≡◌, drop, IfOk};
 ghost use Rattle.abi_json.specs.Documents.{IsDocument};
 ghost use Rattle.abi_json.specs.Documents as spec;
+ghost use Rattle.cli_args.specs.Words.{texts};
 
 use crate::beside::SideNotes;
 use abi_base::NoMemory;
 use commands::{Outcome, Verdict};
 use document_head::{Ending, head_of};
 use json_report::with_member;
-use serde_json::{Value, put};
-use std::alloc::{AllocError, Global};
-use std::rt::Files;
+use std::alloc::Global;
 
 // The line that begins a report.
 const NO: &[u8] = b"no\n";
@@ -37,7 +36,9 @@ fn breaks_of<'t>(outcome: Outcome, text: &'t [u8]) -> &'t [u8]
 }
 
 // The text of an object without its closing brace.
-fn opened(object: &str) -> &[u8] {
+fn unclosed(object: &str) -> &[u8]
+    ensures { result.now ≡ spec.unclosed object.now }
+{
     let bytes = object.as_bytes();
     if bytes.is_empty() {
         bytes
@@ -46,30 +47,19 @@ fn opened(object: &str) -> &[u8] {
     }
 }
 
-// An object with the sentence that says why there are no notes, or null.
-fn with_missing(alloc: Global, head: Value, missing: Value) -> Result<Value, AllocError> {
-    match head {
-        Value::Object(members) => {
-            let mut members = members;
-            put(&mut members, alloc, "missing_side_notes", missing)?;
-            Ok(Value::Object(members))
-        }
-        other => Ok(other),
-    }
-}
-
 /// The document of a run: its head, with the notes on differences that no rule judges, and the breaks at the end, as the listener
 /// made them.
-pub(crate) fn document_of<R: Files + AllocGlobal>(
-    rt: &R,
+pub(crate) fn document_of(
+    alloc: Global,
     ending: &Ending<'_>,
     side_notes: SideNotes,
 ) -> Result<Vec<u8>, NoMemory>
-    ensures { IfOk result (λ document. IsDocument ending.now.outcome ending.now.text.now document.items) }
+    ensures { IfOk result (λ document. IsDocument (texts ending.now.words.now)
+        ending.now.outcome ending.now.text.now document.items) }
 {
     let breaks = breaks_of(ending.outcome, ending.text);
     let SideNotes { notes, missing } = side_notes;
-    let head = head_of(rt, ending, breaks, notes)?;
-    let head = with_missing(rt.alloc(), head, missing)?.to_string(rt.alloc())?;
-    with_member(rt.alloc(), opened(head.as_str()), "breaks", breaks)
+    let head = head_of(alloc, ending, breaks, notes, missing)?;
+    let head_text = head.to_string(alloc)?;
+    with_member(alloc, unclosed(head_text.as_str()), "breaks", breaks)
 }

@@ -42,7 +42,7 @@ fn outcome_of_process<R: Files + Print + Eprint + Env + AllocGlobal>(rt: &R) -> 
             Vec::new(rt.alloc())
         }
     };
-    match outcome_of(rt, &arguments, wanted_by(rt)) {
+    match outcome_of(rt, &arguments) {
         Ok(outcome) => outcome,
         Err(cause) => {
             say_cause(rt, cause);
@@ -97,17 +97,16 @@ fn told_by_words<R: Files + AllocGlobal>(
         return notes_told(rt, words);
     }
     let mut inputs = FileInputs::new(rt);
-    told_of(rt, words, &mut inputs, wanted)
+    told_of(rt.alloc(), words, &mut inputs, wanted)
 }
 
 // Prints the document of a run with these arguments. The outcome is that of the run, unless the document cannot be made or printed.
-fn outcome_of<R: Files + Print + AllocGlobal>(
+fn outcome_of<R: Files + Print + Env + AllocGlobal>(
     rt: &R,
     arguments: &[String],
-    wanted: Wanted,
 ) -> Result<Outcome, NoMemory> {
     let words = words_of(rt.alloc(), arguments)?;
-    let told = told_by_words(rt, &words, wanted)?;
+    let told = told_by_words(rt, &words, wanted_by(rt)?)?;
     let mut sink = StdSink::new(rt);
     match write_all(&mut sink, &told.document) {
         Ok(()) => Ok(told.outcome),

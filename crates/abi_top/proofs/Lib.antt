@@ -1,4 +1,5 @@
 mod Alike
+mod OfRead
 mod Printed
 mod Rows
 mod Single

@@ -1,10 +1,8 @@
 -- What `check` prints on yes is accepted by `verify`.
-use Rattle.std.proofs.Common.{◌≡◌, ℕ, List, [], ◌∷◌, Option, None, sym, ◌∙◌}
+use Rattle.std.proofs.Common.{◌≡◌, ℕ, List, [], ◌∷◌, Option, Some, None, sym, ◌∙◌}
 use Rattle.abi_base.specs.declared.remark.Remark.{Remark}
 use Rattle.abi_top.specs.Answer.{row_of}
-use Rattle.abi_top.specs.Rows.Verify.{VerifySays, verify_says}
 use Rattle.abi_top.specs.OneAnswer.{AcceptsWhatCheckPrints}
-use Rattle.abi_top.specs.Text.{accepted_text}
 use Rattle.abi_top.proofs.lemmas.ParsedArguments.{reply_of}
 use Rattle.cert_check.specs.declared.refused.Refused.{Refused as Refusal}
 use Rattle.cli_args.specs.Commands.{PlainRequest, check, verify}
@@ -17,27 +15,27 @@ use Rattle.commands.specs.declared.verdict.Verdict.{Verdict}
 use Rattle.commands.specs.declared.verdict.Verdict.TheVariants as verdict
 use Rattle.commands.proofs.lemmas.Single.{judged_alone, verdict_alone}
 use Rattle.library_check.specs.Checks.{IsCertificateText}
+use Rattle.library_check.specs.Rows.Verify.{VerifySays, verify_says}
+use Rattle.library_check.specs.Text.{accepted_text}
 use Rattle.library_check.specs.Verifications.{IsVerified, certificate_fault}
-use Rattle.library_check.specs.declared.verifying.Verified.{Verified}
-use Rattle.library_check.specs.declared.verifying.Verified.TheVariants as verified
 
-refused_is_accepted : (a : Refusal) → verified.Refused a ≡ verified.Accepted → ⊥
+refused_is_accepted : (a : Refusal) → Some a ≡ None → ⊥
 refused_is_accepted a is = cc
 
 -- the verdict of `verify` on a certificate of which nothing else can be said
-accepted_alone : (old new rules certificate : List ℕ) → ((one : Verified) → IsVerified old new rules certificate one → one ≡ verified.Accepted)
+accepted_alone : (old new rules certificate : List ℕ) → ((one : Option Refusal) → IsVerified old new rules certificate one → one ≡ None)
     → (outcome : Outcome) (answer : List ℕ) → IsVerdict verify_says (old ∷ new ∷ rules ∷ certificate ∷ []) outcome (λ (t : List ℕ). t ≡ answer)
     → (u : Option Remark) × (outcome ≡ Judged verdict.Yes u) × (answer ≡ accepted_text)
 accepted_alone old new rules certificate alone outcome answer on = of on.verdict on.is on.said.0
   where
     of : (v : Verdict) → outcome ≡ Judged v on.untyped → VerifySays old new rules certificate v on.text → (u : Option Remark) × (outcome ≡ Judged verdict.Yes u) × (answer ≡ accepted_text)
     of verdict.Yes is said = (on.untyped, is, sym on.holds ∙ said.3)
-    of verdict.Refused is said = absurd (refused_is_accepted said.0 (alone (verified.Refused said.0) said.1))
+    of verdict.Refused is said = absurd (refused_is_accepted said.0 (alone (Some said.0) said.1))
     of verdict.No is said = absurd said
     of verdict.Done is said = absurd said
 
 pub accepts_what_check_prints : ((old new rules text : List ℕ) → IsCertificateText old new rules text → certificate_fault text ≡ None)
-    → ((old new rules text : List ℕ) (one : Verified) → IsCertificateText old new rules text → IsVerified old new rules text one → one ≡ verified.Accepted)
+    → ((old new rules text : List ℕ) (one : Option Refusal) → IsCertificateText old new rules text → IsVerified old new rules text one → one ≡ None)
     → AcceptsWhatCheckPrints
 accepts_what_check_prints whole alone call other rules_name report old_name new_name certificate_name old new rules text untyped is tells printed short other_is other_tells outcome answer no_fault answers =
     let asked : PlainRequest = check rules_name report old_name new_name in

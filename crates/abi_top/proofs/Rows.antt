@@ -18,17 +18,16 @@ use Rattle.abi_top.specs.OneAnswer.{AreTextsDecided}
 use Rattle.abi_top.specs.Rows.{command_of}
 use Rattle.abi_top.specs.Rows.App.{OnApp}
 use Rattle.abi_top.specs.Rows.Check.{OnCheck}
-use Rattle.abi_top.specs.Rows.Compose.{ComposesNone, OnCompose}
+use Rattle.abi_top.specs.Rows.Compose.{OnCompose}
 use Rattle.abi_top.specs.Rows.Layout.{OnLayout}
 use Rattle.abi_top.specs.Rows.Listings.{OnListing}
 use Rattle.abi_top.specs.Rows.Migrate.{OnMigrate}
 use Rattle.abi_top.specs.Rows.Trial.{OnTrial}
 use Rattle.abi_top.specs.Rows.Verify.{OnVerify}
-use Rattle.abi_top.specs.Text.{accepted_text, refused_text}
-use Rattle.abi_top.proofs.Alike.{HasOneReport}
-use Rattle.abi_top.proofs.Rows.App.{OfApp, app_says_one, of_app}
+use Rattle.library_check.specs.Text.{accepted_text, refused_text}
+use Rattle.abi_top.proofs.Rows.App.{HasOneApp, OfApp, app_says_one, of_app}
 use Rattle.abi_top.proofs.Rows.Check.{HasOneCheck, OfCheck, check_says_one, of_check}
-use Rattle.abi_top.proofs.Rows.Compose.{HasOneComposition, OfCompose, compose_says_one, composed_done, composed_no, composes, composes_none, of_compose}
+use Rattle.abi_top.proofs.Rows.Compose.{HasOneComposition, OfCompose, compose_says_one, composes_none, of_compose}
 use Rattle.abi_top.proofs.Rows.Layout.{HasOneLayout, OfLayout, layout_says_one, of_layout}
 use Rattle.abi_top.proofs.Rows.Listings.{OfEntries, OfExports, entries_says_one, exports_says_one, of_entries, of_exports}
 use Rattle.abi_top.proofs.Rows.Migrate.{HasOneMigration, OfMigrate, migrate_says_one, of_migrate}
@@ -44,7 +43,7 @@ use Rattle.commands.specs.declared.verdict.Verdict.TheVariants as verdict
 use Rattle.library_read.specs.Faults.{library_fault}
 use Rattle.library_check.specs.Applications.{AgreedFor, IsAppReportText, IsCompatibleFor, KeepsLeavesFor, uses_for}
 use Rattle.library_check.specs.Checks.{Agreed, Compatible, IsCertificateText, IsReportText, KeepsLeaves}
-use Rattle.library_check.specs.Compositions.{IsComposedText}
+use Rattle.library_check.specs.Compositions.{ComposesNone, IsComposedText}
 use Rattle.library_check.specs.Migrations.{IsMigratedText, IsRefusedMigration}
 use Rattle.library_check.specs.Relations.{IsRelationText}
 use Rattle.library_check.specs.Remarks.{remark_on}
@@ -113,7 +112,7 @@ module _ (call : Call) (untyped : Option Remark) (text : List ℕ) (A : List ℕ
           inr (inl (rules_name, old_name, new_name, certificate_name, old, new, rules, certificate, reads, (said.0.1, said.0.0, said.0.2, subst A said.0.3 appends)))
       of (inr (inr (inl (rules_name, old_name, new_name, certificate_name, old, new, rules, certificate, reads, said)))) = absurd said.0
       of (inr (inr (inr (inl (first_name, middle_name, last_name, certificate1_name, certificate2_name, files, reads, said))))) =
-          inr (inr (inl (first_name, middle_name, last_name, certificate1_name, certificate2_name, files, reads, composes text A appends files said.0.composed said.0.is said.0.as_text)))
+          inr (inr (inl (first_name, middle_name, last_name, certificate1_name, certificate2_name, files, reads, (said.0.0, text, said.0.1, appends))))
       of (inr (inr (inr (inr (inl (name, tag, library, reads, said)))))) = absurd said.0
       of (inr (inr (inr (inr (inr (inl (name, library, reads, said))))))) = absurd (yes_is_done said.done)
       of (inr (inr (inr (inr (inr (inr (inl (name, library, reads, said)))))))) = absurd (yes_is_done said.done)
@@ -134,7 +133,7 @@ module _ (call : Call) (untyped : Option Remark) (text : List ℕ) (A : List ℕ
           inl (rules_name, report, old_name, new_name, old, new, rules, reads, (said.0.0, said.1, text, said.0.1, appends))
       of (inr (inl (rules_name, old_name, new_name, certificate_name, old, new, rules, certificate, reads, said))) = absurd said.0
       of (inr (inr (inl (rules_name, old_name, new_name, certificate_name, old, new, rules, certificate, reads, said)))) = absurd said.0
-      of (inr (inr (inr (inl (first_name, middle_name, last_name, certificate1_name, certificate2_name, files, reads, said))))) = absurd (composed_no said.0.composed text said.0.as_text)
+      of (inr (inr (inr (inl (first_name, middle_name, last_name, certificate1_name, certificate2_name, files, reads, said))))) = absurd said.0
       of (inr (inr (inr (inr (inl (name, tag, library, reads, said)))))) = absurd said.0
       of (inr (inr (inr (inr (inr (inl (name, library, reads, said))))))) = absurd (no_is_done said.done)
       of (inr (inr (inr (inr (inr (inr (inl (name, library, reads, said)))))))) = absurd (no_is_done said.done)
@@ -158,7 +157,7 @@ module _ (call : Call) (untyped : Option Remark) (text : List ℕ) (A : List ℕ
       of (inr (inr (inl (rules_name, old_name, new_name, certificate_name, old, new, rules, certificate, reads, said)))) =
           inr (inl (rules_name, old_name, new_name, certificate_name, old, new, rules, certificate, reads, (said.0.0, said.0.1, subst A said.0.2 appends)))
       of (inr (inr (inr (inl (first_name, middle_name, last_name, certificate1_name, certificate2_name, files, reads, said))))) =
-          inr (inr (inl (first_name, middle_name, last_name, certificate1_name, certificate2_name, files, reads, composes_none text A appends files said.0.composed said.0.is said.0.as_text)))
+          inr (inr (inl (first_name, middle_name, last_name, certificate1_name, certificate2_name, files, reads, composes_none text A appends files said.0)))
       of (inr (inr (inr (inr (inl (name, tag, library, reads, said)))))) =
           inr (inr (inr (name, tag, library, reads, (said.0.0, subst A said.0.1 appends))))
       of (inr (inr (inr (inr (inr (inl (name, library, reads, said))))))) = absurd (refused_is_done said.done)
@@ -181,7 +180,7 @@ module _ (call : Call) (untyped : Option Remark) (text : List ℕ) (A : List ℕ
       of (inr (inl (rules_name, old_name, new_name, certificate_name, old, new, rules, certificate, reads, said))) = absurd said.0
       of (inr (inr (inl (rules_name, old_name, new_name, certificate_name, old, new, rules, certificate, reads, said)))) =
           inr (inr (inl (rules_name, old_name, new_name, certificate_name, old, new, rules, certificate, reads, (said.0.0, text, said.0.1, appends))))
-      of (inr (inr (inr (inl (first_name, middle_name, last_name, certificate1_name, certificate2_name, files, reads, said))))) = absurd (composed_done said.0.composed text said.0.as_text)
+      of (inr (inr (inr (inl (first_name, middle_name, last_name, certificate1_name, certificate2_name, files, reads, said))))) = absurd said.0
       of (inr (inr (inr (inr (inl (name, tag, library, reads, said)))))) =
           inr (inr (inr (name, tag, library, reads, (text, said.0.0, said.0.1, appends))))
       of (inr (inr (inr (inr (inr (inl (name, library, reads, said))))))) = inl (inl (name, library, reads, subst A said.is appends))
@@ -299,7 +298,7 @@ pub record HaveOneText : Type 0 where
   pub migration : HasOneMigration
   pub composition : HasOneComposition
   pub layout_text : HasOneLayout
-  pub application : HasOneReport
+  pub application : HasOneApp
   pub tried : HasOneTrial
   pub counted : (words : List (List ℕ)) (count : ℕ) → arguments_by words ≡ request (trial count) → (1 ≤ count) × (count ≤ most_functions)
 

@@ -7,10 +7,12 @@ use Rattle.cli_args.specs.Commands.{PlainRequest, usage_text}
 use Rattle.cli_args.specs.ParsedArguments.{request, usage, help, version, arguments_by}
 use Rattle.cli_args.specs.Release.{version_text}
 use Rattle.commands.specs.Commands.{Command, places_of}
+use Rattle.commands.specs.Read.{IsJudgedOn}
 use Rattle.commands.specs.Reading.{AreTold}
 use Rattle.commands.specs.Replies.{OnBytes, Replies}
+use Rattle.commands.specs.declared.input.Input.{Input}
 use Rattle.commands.specs.declared.outcome.Outcome.{Outcome}
-use Rattle.commands.specs.declared.outcome.Outcome.TheVariants.{Help, Usage}
+use Rattle.commands.specs.declared.outcome.Outcome.TheVariants.{Judged, Unreadable, ReadFault, Help, Usage, NoMemory, WriteFault}
 
 -- the row of a request in a call
 abbrev pub row_of : Call → PlainRequest → Command
@@ -42,3 +44,15 @@ PassesLimit call limit = Asks call (λ asked. OnBytes call.reading (row_of call 
 -- bytes that pass no limit
 abbrev pub IsModest : (List (List ℕ) → Limit → Type 0) → List (List ℕ) → Type 0
 IsModest passes all = (limit : Limit) → passes all limit → ⊥
+
+-- A verdict is on bytes that were read, with this text: the arguments make a request, and these are its inputs, with the bytes that they
+-- gave.
+abbrev pub ReadsFor : Call → (roles : List Input) (all : List (List ℕ)) → Outcome → (List ℕ → Type 0) → Type 0
+ReadsFor call roles all (Judged verdict untyped) P =
+    Asks call (λ asked. (text : List ℕ) × IsJudgedOn call.reading (row_of call asked).inputs (row_of call asked).says roles all verdict untyped text × P text)
+ReadsFor call roles all (Unreadable which fault) P = Unit {0}
+ReadsFor call roles all (ReadFault which) P = Unit {0}
+ReadsFor call roles all Help P = Unit {0}
+ReadsFor call roles all Usage P = Unit {0}
+ReadsFor call roles all (NoMemory cause) P = Unit {0}
+ReadsFor call roles all WriteFault P = Unit {0}

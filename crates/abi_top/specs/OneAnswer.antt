@@ -4,7 +4,7 @@ use Rattle.abi_base.specs.Limits.{input_limit}
 use Rattle.abi_base.specs.declared.remark.Remark.{Remark}
 use Rattle.abi_top.specs.Answer.{Answers, row_of}
 use Rattle.abi_top.specs.Calls.{Call}
-use Rattle.abi_top.specs.Text.{accepted_text}
+use Rattle.library_check.specs.Text.{accepted_text}
 use Rattle.cli_args.specs.Commands.{PlainRequest, app, check, verify}
 use Rattle.cli_args.specs.ParsedArguments.{request, usage, help, version, arguments_by}
 use Rattle.commands.specs.Commands.{places_of}

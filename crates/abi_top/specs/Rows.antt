@@ -1,5 +1,5 @@
--- The commands, a row for each: the inputs that it wants, and what it says about their bytes. What a command reads and says stands
--- in a module of its own.
+-- The commands, a row for each: the inputs that it wants, what it says about their bytes, and the limits that these pass, as the crate
+-- that makes its answer defines them. What `run` promises of a command stands in a module of its own.
 pub mod Check
 pub mod Verify
 pub mod Listings
@@ -9,20 +9,14 @@ pub mod Compose
 pub mod Layout
 pub mod App
 use Rattle.std.specs.Prelude.{List}
-use Rattle.abi_top.specs.Rows.App.{app_inputs, app_says}
-use Rattle.abi_top.specs.Rows.Check.{check_inputs, check_says}
-use Rattle.abi_top.specs.Rows.Compose.{compose_inputs, compose_says}
-use Rattle.abi_top.specs.Rows.Migrate.{migrate_inputs, migrate_says}
-use Rattle.abi_top.specs.Rows.Trial.{trial_inputs, trial_says}
-use Rattle.abi_top.specs.Rows.Verify.{verify_inputs, verify_says}
 use Rattle.cli_args.specs.Commands.{PlainRequest, check, verify, entries, exports, trial, migrate, compose, layout, app}
 use Rattle.commands.specs.Commands.{Command}
-use Rattle.library_check.specs.Rows.App.{app_passes}
-use Rattle.library_check.specs.Rows.Check.{check_passes}
-use Rattle.library_check.specs.Rows.Compose.{compose_passes}
-use Rattle.library_check.specs.Rows.Migrate.{migrate_passes}
-use Rattle.library_check.specs.Rows.Trial.{trial_passes}
-use Rattle.library_check.specs.Rows.Verify.{verify_passes}
+use Rattle.library_check.specs.Rows.App.{app_inputs, app_passes, app_says}
+use Rattle.library_check.specs.Rows.Check.{check_inputs, check_passes, check_says}
+use Rattle.library_check.specs.Rows.Compose.{compose_inputs, compose_passes, compose_says}
+use Rattle.library_check.specs.Rows.Migrate.{migrate_inputs, migrate_passes, migrate_says}
+use Rattle.library_check.specs.Rows.Trial.{trial_inputs, trial_passes, trial_says}
+use Rattle.library_check.specs.Rows.Verify.{verify_inputs, verify_passes, verify_says}
 use Rattle.library_layout.specs.Command.{layout_inputs, layout_passes, layout_says}
 use Rattle.listings.specs.entries.Command.{entries_inputs, entries_passes, entries_says}
 use Rattle.listings.specs.exports.Command.{exports_inputs, exports_passes, exports_says}

@@ -7,7 +7,7 @@ ghost use Rattle.abi_base.specs.declared.fault.Fault.{Fault as AnyFault};
 ghost use Rattle.abi_base.specs.declared.fault.NoMemory.TheVariants.{Allocation, Past};
 ghost use Rattle.abi_base.specs.declared.limit.Limit.{Limit as AnyLimit};
 ghost use Rattle.abi_base.specs.declared.remark.Remark.{Remark as AnyRemark};
-ghost use Rattle.abi_top.specs.Answer.{Answers, Asks, AsksForTold, HasRoom, IsModest, PassesLimit, row_of};
+ghost use Rattle.abi_top.specs.Answer.{Answers, Asks, AsksForTold, HasRoom, IsModest, PassesLimit, ReadsFor, row_of};
 ghost use Rattle.abi_top.specs.Calls.{Call, call_of};
 ghost use Rattle.abi_top.specs.Rows.{command_of};
 ghost use Rattle.abi_top.specs.Verdicts.{Agrees, Disagrees, LeavesStayOf, MeansDone, MeansNo, MeansRefused, MeansYes};
@@ -15,10 +15,11 @@ ghost use Rattle.cli_args.specs.Commands.{PlainRequest, check, plain_request, tr
 ghost use Rattle.cli_args.specs.ParsedArguments.{arguments_by, request as requested, help, usage, version};
 ghost use Rattle.cli_args.specs.Release.{version_text};
 ghost use Rattle.cli_args.specs.Words.{texts};
-ghost use Rattle.commands.specs.Commands.{asks_of, files_of, places_of, plain_file, plain_place};
+ghost use Rattle.commands.specs.Commands.{asks_of, files_of, items_of, places_of, plain_file, plain_place};
 ghost use Rattle.commands.specs.Faults.{FaultOfAll};
 ghost use Rattle.commands.specs.OneReply.{AreShortAfter, TellsEach, TellsFirst};
 ghost use Rattle.commands.specs.Outcomes.{IsNoMemory};
+ghost use Rattle.commands.specs.Read.{IsOnRead};
 ghost use Rattle.commands.specs.Reading.{AreOwnShort, AreTold, FailsToRead, reading_of};
 ghost use Rattle.commands.specs.Replies.{IsFaulty, OnBytes, Replies};
 ghost use Rattle.commands.specs.Served.{AreServed, AreUnfailed, IsVerdict};
@@ -28,17 +29,12 @@ ghost use Rattle.commands.specs.declared.outcome.Outcome.{Outcome as AnyOutcome}
 ghost use Rattle.report.specs.declared.styles.report_option.ReportStyle.{ReportStyle as AnyStyle};
 ghost use Rattle.trial_libraries.specs.Limits.{most_functions};
 
-use crate::app::App;
-use crate::check::Check;
-use crate::compose::Compose;
-use crate::migrate::Migrate;
-use crate::trial::Trial;
-use crate::verify::Verify;
 use abi_base::{Inputs, NoMemory, Sink, write_all};
 use cli_args::laws::a_trial_is_of_a_count;
 use cli_args::{ParsedArguments, Request, parse_arguments, usage, version};
-use commands::{Answer, File, Input, Outcome, Place, Verdict, answer_with};
+use commands::{Answer, File, Input, Outcome, Place, ReadInputs, Verdict, answer_with};
 use library_check::laws::{a_file_may_replace_itself, compatible_is_that_accesses_agree};
+use library_check::{App, Check, Compose, Migrate, Trial, Verify};
 use library_layout::Layout;
 use listings::{Entries, Exports};
 use report::Listener;
@@ -51,6 +47,8 @@ pub struct Ended<'a> {
     pub outcome: Outcome,
     /// The inputs that were read, with the names from the arguments, in order.
     pub files: Vec<File<'a>>,
+    /// The inputs that were read whole, with their bytes.
+    pub read: ReadInputs,
 }
 
 /// Runs the command that the arguments request, and returns how it ended. `words` are the arguments after the program's name. The
@@ -227,6 +225,13 @@ pub fn run<'a, I: Inputs, S: Sink>(
         → TellsEach call.reading.told (places_of (row_of call asked).inputs) all → IsModest (row_of call asked).passes all
         → (limit : AnyLimit) → result.outcome ≢ Outcome.NoMemory (Past limit) }
 
+    // A verdict is on the bytes that were read: they are those that the inputs of the command gave, by their roles, and it is what the
+    // command says about them.
+    ensures read { let call : Call = call_of I.told I.faults I.given I.started
+        (map voice listeners.items) words.entry.now inputs.old inputs.new in
+        ReadsFor call result.read.roles.items (map items_of result.read.all.items) result.outcome
+        (λ text. Appends (S.held sink.old) (S.held sink.new) text) }
+
     // The names of the inputs are those in the arguments, in the order of the command's row.
     ensures files { (asked : PlainRequest) → arguments_by (texts words.entry.now) ≡ requested asked
         → (IsNoMemory result.outcome → ⊥)
@@ -239,15 +244,18 @@ pub fn run<'a, I: Inputs, S: Sink>(
         Err(cause) => Ended {
             outcome: Outcome::NoMemory(cause),
             files: Vec::new(alloc),
+            read: ReadInputs::none(alloc),
         },
         Ok(answer) => match write_all(sink, &answer.text) {
             Ok(()) => Ended {
                 outcome: answer.outcome,
                 files: answer.files,
+                read: answer.read,
             },
             Err(_) => Ended {
                 outcome: Outcome::WriteFault,
                 files: answer.files,
+                read: answer.read,
             },
         },
     }
@@ -270,6 +278,10 @@ fn answer_to<'a, I: Inputs>(
         → SameCounts (I.faults inputs.old) (I.faults inputs.new) }
     ensures files { IfOk result (λ a. (asked : PlainRequest) → arguments_by (texts words.entry.now) ≡ requested asked
         → map plain_file a.files.items ≡ files_of (places_of (command_of (map voice listeners.items) asked).inputs)) }
+    ensures read { let call : Call = call_of I.told I.faults I.given I.started
+        (map voice listeners.items) words.entry.now inputs.old inputs.new in
+        IfOk result (λ a. ReadsFor call a.read.roles.items (map items_of a.read.all.items) a.outcome
+        (λ text. text ≡ a.text.items)) }
     ensures past { let call : Call = call_of I.told I.faults I.given I.started
         (map voice listeners.items) words.entry.now inputs.old inputs.new in
         IfErr result (λ cause. OnLimit cause (PassesLimit call)) }
@@ -281,16 +293,19 @@ fn answer_to<'a, I: Inputs>(
             outcome: Outcome::Help,
             text: usage(alloc)?,
             files: Vec::new(alloc),
+            read: ReadInputs::none(alloc),
         }),
         ParsedArguments::Version => Ok(Answer {
             outcome: Outcome::Help,
             text: version(alloc, "abi")?,
             files: Vec::new(alloc),
+            read: ReadInputs::none(alloc),
         }),
         ParsedArguments::Usage => Ok(Answer {
             outcome: Outcome::Usage,
             text: usage(alloc)?,
             files: Vec::new(alloc),
+            read: ReadInputs::none(alloc),
         }),
     }
 }
@@ -333,6 +348,10 @@ fn answer_of<'a, I: Inputs>(
         → SameCounts (I.faults inputs.old) (I.faults inputs.new) }
     ensures files { let row = command_of (map voice listeners.items) (plain_request request.entry) in
         IfOk result (λ a. map plain_file a.files.items ≡ files_of (places_of row.inputs)) }
+    ensures read { let row = command_of (map voice listeners.items) (plain_request request.entry) in
+        let reading = reading_of I.told I.faults I.given I.started inputs.old inputs.new in
+        IfOk result (λ a. IsOnRead reading row.inputs row.says a.read.roles.items (map items_of a.read.all.items)
+        a.outcome a.text.items) }
     ensures past { let row = command_of (map voice listeners.items) (plain_request request.entry) in
         let reading = reading_of I.told I.faults I.given I.started inputs.old inputs.new in
         IfErr result (λ cause. OnLimit cause (λ limit. OnBytes reading row.inputs (λ all. row.passes all limit))) }

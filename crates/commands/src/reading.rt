@@ -44,12 +44,21 @@ fn read_one<I: Inputs>(alloc: Global, inputs: &mut I, place: &Place<'_>) -> Resu
     }
 }
 
+/// Why an input cannot be read whole, and the bytes of the inputs before it.
+#[derive(Drop)]
+pub(crate) struct Unread {
+    /// Why there is no verdict.
+    pub(crate) stop: Stop,
+    /// The bytes of the inputs before it.
+    pub(crate) all: Vec<Vec<u8>>,
+}
+
 /// The bytes of all inputs; or, for the first one that cannot be read whole, the reason.
 pub(crate) fn read_all<I: Inputs>(
     alloc: Global,
     inputs: &mut I,
     places: &[Place<'_>],
-) -> Result<Vec<Vec<u8>>, Stop>
+) -> Result<Vec<Vec<u8>>, Unread>
     requires { AreOwnShort (map plain_place places.now) }
     ensures told { (name : List ℕ) → I.told inputs.new name ≡ I.told inputs.old name }
     ensures later { NeverFall (I.faults inputs.old) (I.faults inputs.new) }
@@ -58,14 +67,20 @@ pub(crate) fn read_all<I: Inputs>(
     // If no call is made to fail and the bytes of all inputs are known, no fault count rises.
     ensures steady { Unfailing I.is_made_to_fail inputs.old → AreTold (I.told inputs.old) (map plain_place places.now)
         → SameCounts (I.faults inputs.old) (I.faults inputs.new) }
-    ensures unread { IfErr result (StopsReading
-        (reading_of I.told I.faults I.given I.started inputs.old inputs.new) (map plain_place places.now)) }
+    ensures unread { IfErr result (λ unread. StopsReading
+        (reading_of I.told I.faults I.given I.started inputs.old inputs.new) (map plain_place places.now) unread.stop) }
 {
     let mut all = Vec::new(alloc);
     for place in places {
         match read_one(alloc, inputs, place) {
-            Ok(bytes) => all.push(bytes)?,
-            Err(stop) => return Err(stop),
+            Ok(bytes) => match all.push(bytes) {
+                Ok(()) => {}
+                Err(_) => {
+                    let stop = Stop::NoMemory(NoMemory::Allocation);
+                    return Err(Unread { stop, all });
+                }
+            },
+            Err(stop) => return Err(Unread { stop, all }),
         }
     }
     Ok(all)

@@ -130,3 +130,11 @@ notes_put inputs types places side notes ms =
     behind_inputs (codes "notes") notes inputs types places (put (codes "side_notes") side (put (codes "notes") notes ms)) refl refl
     (stays (codes "notes") (codes "places") places notes (put (codes "side_notes") side (put (codes "notes") notes ms)) refl
     (stays (codes "notes") (codes "side_notes") side notes (put (codes "notes") notes ms) refl (get_member-put (codes "notes") notes ms)))
+
+pub missing_put : (inputs types places side notes missing : Data) (ms : Members)
+    → get_member (codes "missing_side_notes") (put (codes "inputs") inputs (put (codes "types") types (put (codes "places") places (put (codes "side_notes") side (put (codes "notes") notes (put (codes "missing_side_notes") missing ms)))))) ≡ Some missing
+missing_put inputs types places side notes missing ms =
+    behind_inputs (codes "missing_side_notes") missing inputs types places (put (codes "side_notes") side (put (codes "notes") notes (put (codes "missing_side_notes") missing ms))) refl refl
+    (stays (codes "missing_side_notes") (codes "places") places missing (put (codes "side_notes") side (put (codes "notes") notes (put (codes "missing_side_notes") missing ms))) refl
+    (stays (codes "missing_side_notes") (codes "side_notes") side missing (put (codes "notes") notes (put (codes "missing_side_notes") missing ms)) refl
+    (stays (codes "missing_side_notes") (codes "notes") notes missing (put (codes "missing_side_notes") missing ms) refl (get_member-put (codes "missing_side_notes") missing ms))))

@@ -5,6 +5,7 @@ use Rattle.sha2.specs.Sha256.{sha256}
 use Rattle.abi_base.specs.Limits.{input_limit}
 use Rattle.commands.specs.Commands.{PlainFile}
 use Rattle.commands.specs.Inputs.{input_word}
+use Rattle.commands.specs.Read.{HasBytes}
 use Rattle.commands.specs.declared.input.Input.{Input}
 use Rattle.commands.specs.declared.input.Input.TheVariants.{Old, New, Rules, Certificate, Library, First, Middle, Last, Certificate1, Certificate2, App}
 use Rattle.elf.specs.file.Elf.{elf_fault}
@@ -51,29 +52,43 @@ abbrev pub input_object : PlainFile → (digest soname : Data) → Data
 input_object input digest soname =
     object (member (codes "input") (string (input_word input.0)) (member (codes "name") (string input.1) (member (codes "sha256") digest (member (codes "soname") soname no_members))))
 
--- the object of an input that was read again and gave these bytes
-pub record IsOfBytes (with_digests : Bool) (input : PlainFile) (value : Data) : Type 0 where
-  pub file : List ℕ
-  pub within : length file ≤ input_limit
+-- What a document shows of inputs: whether their digests, and the bytes of an input, if they were read.
+pub record Shown : Type 1 where
+  pub digests : Bool
+  pub has : Input → List ℕ → Type 0
+
+-- with digests or without, and the bytes that were read of the inputs with these roles
+abbrev pub shown_of : (with_digests : Bool) (roles : List Input) (all : List (List ℕ)) → Shown
+shown_of with_digests roles all = record { digests = with_digests; has = HasBytes roles all }
+
+-- the object of an input with these bytes
+pub record IsOfFile (with_digests : Bool) (input : PlainFile) (file : List ℕ) (value : Data) : Type 0 where
   pub soname : Data
   pub soname_is : IsSoname input.0 file soname
   pub is : value ≡ input_object input (digest_value with_digests file) soname
 
--- the object of an input: by the bytes that it gave, or without facts about them if it could not be read again
-abbrev pub IsInput : (with_digests : Bool) → PlainFile → Data → Type 0
-IsInput with_digests input value = IsOfBytes with_digests input value ⊎ (value ≡ input_object input null null)
+-- the object of an input whose bytes were read
+pub record IsOfBytes (shown : Shown) (input : PlainFile) (value : Data) : Type 0 where
+  pub file : List ℕ
+  pub read : shown.has input.0 file
+  pub within : length file ≤ input_limit
+  pub of_file : IsOfFile shown.digests input file value
+
+-- the object of an input: by the bytes that were read, or without facts about them if it was not read whole
+abbrev pub IsInput : (shown : Shown) → PlainFile → Data → Type 0
+IsInput shown input value = IsOfBytes shown input value ⊎ (value ≡ input_object input null null)
 
 -- one object for each input, in order
-abbrev pub AreInputs : (with_digests : Bool) → List PlainFile → List Data → Type 0
-AreInputs with_digests [] [] = Unit {0}
-AreInputs with_digests [] (value ∷ values) = ⊥
-AreInputs with_digests (input ∷ inputs) [] = ⊥
-AreInputs with_digests (input ∷ inputs) (value ∷ values) = IsInput with_digests input value × AreInputs with_digests inputs values
+abbrev pub AreInputs : (shown : Shown) → List PlainFile → List Data → Type 0
+AreInputs shown [] [] = Unit {0}
+AreInputs shown [] (value ∷ values) = ⊥
+AreInputs shown (input ∷ inputs) [] = ⊥
+AreInputs shown (input ∷ inputs) (value ∷ values) = IsInput shown input value × AreInputs shown inputs values
 
 -- the member `inputs` is the array of their objects
-abbrev pub HasInputs : (with_digests : Bool) → List PlainFile → (document : Data) → Type 0
-HasInputs with_digests files document =
-    (values : List Data) × AreInputs with_digests files values × HasMember (codes "inputs") (array (items_of values)) document
+abbrev pub HasInputs : (shown : Shown) → List PlainFile → (document : Data) → Type 0
+HasInputs shown files document =
+    (values : List Data) × AreInputs shown files values × HasMember (codes "inputs") (array (items_of values)) document
 
 -- ---- facts about types
 
@@ -86,9 +101,9 @@ abbrev pub HasFacts : (name : List ℕ) → Outcome → (document : Data) → Ty
 HasFacts name outcome document = (facts : Members) × HasMember name (facts_value outcome facts) document
 
 -- what the code adds about the inputs, the last member first
-pub record AddsInputs (outcome : Outcome) (with_digests : Bool) (files : List PlainFile) (old new : Members) : Type 0 where
+pub record AddsInputs (outcome : Outcome) (shown : Shown) (files : List PlainFile) (old new : Members) : Type 0 where
   pub places : Members
   pub types : Members
   pub values : List Data
-  pub are : AreInputs with_digests files values
+  pub are : AreInputs shown files values
   pub is : new ≡ put (codes "inputs") (array (items_of values)) (put (codes "types") (facts_value outcome types) (put (codes "places") (facts_value outcome places) old))

@@ -1,14 +1,11 @@
 // How a run ended.
-ghost use Rattle.std.specs.Prelude.{◌≡◌, ◌≤◌, [], length, map, IfOk};
+ghost use Rattle.std.specs.Prelude.{◌≡◌, ◌≤◌, [], length, map};
 ghost use Rattle.abi_base.specs.Limits.{input_limit};
 ghost use Rattle.commands.specs.Commands.{plain_file};
 ghost use Rattle.explain.specs.Notes.{IsUnnamed};
 
-use crate::files::bytes_of;
-use abi_base::NoMemory;
-use commands::{File, Input, Outcome};
+use commands::{File, Input, Outcome, ReadInputs};
 use explain::name_of;
-use std::rt::Files;
 
 /// The optional members that a document has.
 #[derive(Clone, Copy)]
@@ -30,24 +27,22 @@ pub struct Ending<'e> {
     pub files: &'e [File<'e>],
     /// The text that `abi` prints, with the breaks as the JSON listener makes them.
     pub text: &'e [u8],
+    /// The inputs that were read whole, with their bytes.
+    pub read: &'e ReadInputs,
     /// The optional members of the document.
     pub wanted: Wanted,
 }
 
-/// The bytes of an input; none if it was not read under a name, or cannot be read again. It fails only if memory runs out.
-pub fn input_bytes<R: Files + AllocGlobal>(
-    rt: &R,
-    ending: &Ending<'_>,
-    which: Input,
-) -> Result<Vec<u8>, NoMemory>
-    ensures within { IfOk result (λ bytes. length bytes.items ≤ input_limit) }
-    ensures unnamed { IsUnnamed (map plain_file ending.now.files.now) which → IfOk result (λ bytes. bytes.items ≡ []) }
+/// The bytes of an input, as the run read them; none if it was not read under a name, or not whole.
+pub fn input_bytes<'e>(ending: &Ending<'e>, which: Input) -> &'e [u8]
+    ensures within { length result.now ≤ input_limit }
+    ensures unnamed { IsUnnamed (map plain_file ending.now.files.now) which → result.now ≡ [] }
 {
-    let Some(path) = name_of(ending.files, which) else {
-        return Ok(Vec::new(rt.alloc()));
-    };
-    match bytes_of(rt, path)? {
-        Some(bytes) => Ok(bytes),
-        None => Ok(Vec::new(rt.alloc())),
+    if name_of(ending.files, which).is_none() {
+        return &[];
+    }
+    match ending.read.bytes_of(which) {
+        Some(bytes) => bytes,
+        None => &[],
     }
 }

@@ -1,9 +1,9 @@
 // The head of the document of a run: all members except the breaks.
 ghost use Rattle.std.specs.Prelude.{◌≡◌, ◌++◌, [], ◌∷◌, codes, map, option_map, IfOk, OnOk, string_bytes};
-ghost use Rattle.commands.specs.Commands.{plain_file};
+ghost use Rattle.commands.specs.Commands.{items_of, plain_file};
 ghost use Rattle.commands.specs.Outcomes.{exit_number};
 ghost use Rattle.document_head.specs.Heads.{answer_word, command_word, fault_value, first_word, untyped_value, with_all, with_outcome, with_remarks, HasMember, HasText, IsTextMember};
-ghost use Rattle.document_head.specs.Inputs.{AddsInputs, AreInputs, HasFacts, HasInputs, IsInput, facts_value};
+ghost use Rattle.document_head.specs.Inputs.{AddsInputs, AreInputs, HasFacts, HasInputs, IsInput, facts_value, shown_of};
 ghost use Rattle.document_head.specs.Notes.{AddsNotes, AreSentences, HasSentences, IsSentences, noted, texts_array};
 ghost use Rattle.serde_json.specs.Data.{Data, number, object, put, string, unsigned};
 ghost use Rattle.serde_json.specs.View.{members_view, view};
@@ -18,16 +18,15 @@ use commands::{File, Input, Outcome};
 use explain::{notes_on, other_input_sentence};
 use serde_json::{Map, Value, put};
 use std::alloc::{AllocError, Global};
-use std::rt::Files;
 
 // The version of the format. It changes if a member is removed or gets another meaning.
 const FORMAT: u64 = 1;
 
 // The bytes of the input that has a fault, or none.
-fn faulty_bytes<R: Files + AllocGlobal>(rt: &R, ending: &Ending<'_>) -> Result<Vec<u8>, NoMemory> {
+fn faulty_bytes<'e>(ending: &Ending<'e>) -> &'e [u8] {
     match ending.outcome {
-        Outcome::Unreadable(which, _) => input_bytes(rt, ending, which),
-        _ => Ok(Vec::new(rt.alloc())),
+        Outcome::Unreadable(which, _) => input_bytes(ending, which),
+        _ => &[],
     }
 }
 
@@ -43,10 +42,7 @@ fn push_other(sentences: &mut Vec<String>, other: Option<String>) -> Result<(), 
 }
 
 // The sentences beside the answer.
-fn sentences_of<R: Files + AllocGlobal>(
-    rt: &R,
-    ending: &Ending<'_>,
-) -> Result<Vec<String>, NoMemory>
+fn sentences_of(alloc: Global, ending: &Ending<'_>) -> Result<Vec<String>, NoMemory>
     ensures { IfOk result (λ sentences. AreSentences ending.now.outcome (map plain_file ending.now.files.now)
         ending.now.text.now (map string_bytes sentences.items)) }
 {
@@ -56,9 +52,9 @@ fn sentences_of<R: Files + AllocGlobal>(
         text,
         ..
     } = *ending;
-    let bytes = faulty_bytes(rt, ending)?;
-    let mut sentences = notes_on(rt.alloc(), outcome, files, &bytes, "reading failed")?;
-    let other = other_input_sentence(rt.alloc(), files, text)?;
+    let bytes = faulty_bytes(ending);
+    let mut sentences = notes_on(alloc, outcome, files, bytes, "reading failed")?;
+    let other = other_input_sentence(alloc, files, text)?;
     push_other(&mut sentences, other)?;
     Ok(sentences)
 }
@@ -75,19 +71,28 @@ fn texts_value(alloc: Global, texts: &[String]) -> Result<Value, AllocError>
 }
 
 // The sentences beside the answer, as an array.
-fn sentences_value<R: Files + AllocGlobal>(rt: &R, ending: &Ending<'_>) -> Result<Value, NoMemory>
+fn sentences_value(alloc: Global, ending: &Ending<'_>) -> Result<Value, NoMemory>
     ensures { IfOk result (λ value. IsSentences ending.now.outcome (map plain_file ending.now.files.now)
         ending.now.text.now (view value)) }
 {
-    let sentences = sentences_of(rt, ending)?;
-    Ok(texts_value(rt.alloc(), &sentences)?)
+    let sentences = sentences_of(alloc, ending)?;
+    Ok(texts_value(alloc, &sentences)?)
 }
 
-// The breaks, parsed from the text that the listener made.
-fn breaks_in(alloc: Global, text: &[u8]) -> Vec<Value> {
-    match Value::from_slice(alloc, text) {
-        Ok(Value::Array(breaks)) => breaks,
-        _ => Vec::new(alloc),
+// The breaks, parsed from the text that the listener made. It fails only if memory runs out.
+fn breaks_in(alloc: Global, text: &[u8]) -> Result<Vec<Value>, NoMemory> {
+    let parsed = match Value::from_slice(alloc, text) {
+        Ok(parsed) => parsed,
+        Err(error) => {
+            if error.is_memory() {
+                return Err(NoMemory::Allocation);
+            }
+            Value::Null
+        }
+    };
+    match parsed {
+        Value::Array(breaks) => Ok(breaks),
+        _other => Ok(Vec::new(alloc)),
     }
 }
 
@@ -122,33 +127,37 @@ fn put_library(
 }
 
 // Adds the members about an input.
-fn push_input<R: Files + AllocGlobal>(
-    rt: &R,
+fn push_input(
+    alloc: Global,
     members: &mut InputMembers,
+    ending: &Ending<'_>,
     file: File<'_>,
     breaks: &[Value],
-    with_digests: bool,
 ) -> Result<(), NoMemory>
-    ensures { IfOk result (λ _. (value : Data) × IsInput with_digests (plain_file file.entry) value
+    ensures { let read = ending.now.read.now in
+        let shown = shown_of ending.now.wanted.digests read.roles.items (map items_of read.all.items) in
+        IfOk result (λ _. (value : Data) × IsInput shown (plain_file file.entry) value
         × (map view members.new.inputs.items ≡ map view members.old.inputs.items ++ value ∷ [])) }
 {
-    let InputFacts { input, types } = input_facts(rt, file, breaks, with_digests)?;
+    let with_digests = ending.wanted.digests;
+    let InputFacts { input, types } = input_facts(alloc, file, ending.read, breaks, with_digests)?;
     members.inputs.push(input)?;
-    put_library(rt.alloc(), &mut members.types, file.which, types)?;
+    put_library(alloc, &mut members.types, file.which, types)?;
     Ok(())
 }
 
 // The members about all inputs, by the text of the breaks.
-fn input_members<R: Files + AllocGlobal>(
-    rt: &R,
+fn input_members(
+    alloc: Global,
     ending: &Ending<'_>,
     breaks: &[u8],
 ) -> Result<InputMembers, NoMemory>
-    ensures { IfOk result (λ members. AreInputs ending.now.wanted.digests (map plain_file ending.now.files.now)
+    ensures { let read = ending.now.read.now in
+        let shown = shown_of ending.now.wanted.digests read.roles.items (map items_of read.all.items) in
+        IfOk result (λ members. AreInputs shown (map plain_file ending.now.files.now)
         (map view members.inputs.items)) }
 {
-    let alloc = rt.alloc();
-    let breaks = breaks_in(alloc, breaks);
+    let breaks = breaks_in(alloc, breaks)?;
     let mut members = InputMembers {
         inputs: Vec::new(alloc),
         types: TypeMembers {
@@ -157,7 +166,7 @@ fn input_members<R: Files + AllocGlobal>(
         },
     };
     for file in ending.files {
-        push_input(rt, &mut members, *file, &breaks, ending.wanted.digests)?;
+        push_input(alloc, &mut members, ending, *file, &breaks)?;
     }
     Ok(members)
 }
@@ -238,8 +247,8 @@ fn put_remarks(
 }
 
 // Adds the sentences beside the answer, and the notes on differences that no rule judges.
-fn put_notes<R: Files + AllocGlobal>(
-    rt: &R,
+fn put_notes(
+    alloc: Global,
     head: &mut Map<String, Value>,
     ending: &Ending<'_>,
     side_notes: Value,
@@ -248,9 +257,21 @@ fn put_notes<R: Files + AllocGlobal>(
         OnOk result (AddsNotes ending.now.outcome files ending.now.text.now (view side_notes)
         (members_view head.old.entries) (members_view head.new.entries)) }
 {
-    put(head, rt.alloc(), "notes", sentences_value(rt, ending)?)?;
-    put(head, rt.alloc(), "side_notes", side_notes)?;
+    put(head, alloc, "notes", sentences_value(alloc, ending)?)?;
+    put(head, alloc, "side_notes", side_notes)?;
     Ok(())
+}
+
+// Adds the sentence that says why there are no notes on differences, or null.
+fn put_missing(
+    alloc: Global,
+    head: &mut Map<String, Value>,
+    missing: Value,
+) -> Result<(), AllocError>
+    ensures { OnOk result (members_view head.new.entries
+        ≡ put (codes "missing_side_notes") (view missing) (members_view head.old.entries)) }
+{
+    put(head, alloc, "missing_side_notes", missing)
 }
 
 // Adds the facts about the types in breaks.
@@ -271,19 +292,20 @@ fn put_types(
 }
 
 // Adds the objects of the inputs, and the facts about the types in breaks.
-fn put_inputs<R: Files + AllocGlobal>(
-    rt: &R,
+fn put_inputs(
+    alloc: Global,
     head: &mut Map<String, Value>,
     ending: &Ending<'_>,
     breaks: &[u8],
 ) -> Result<(), NoMemory>
-    ensures { let files = map plain_file ending.now.files.now in
-        OnOk result (AddsInputs ending.now.outcome ending.now.wanted.digests files
+    ensures { let files = map plain_file ending.now.files.now in let read = ending.now.read.now in
+        let shown = shown_of ending.now.wanted.digests read.roles.items (map items_of read.all.items) in
+        OnOk result (AddsInputs ending.now.outcome shown files
         (members_view head.old.entries) (members_view head.new.entries)) }
 {
-    let InputMembers { inputs, types } = input_members(rt, ending, breaks)?;
-    put_types(rt.alloc(), head, ending.outcome, types)?;
-    put(head, rt.alloc(), "inputs", Value::Array(inputs))?;
+    let InputMembers { inputs, types } = input_members(alloc, ending, breaks)?;
+    put_types(alloc, head, ending.outcome, types)?;
+    put(head, alloc, "inputs", Value::Array(inputs))?;
     Ok(())
 }
 
@@ -305,15 +327,16 @@ fn with_ending(
     Ok(Value::Object(head))
 }
 
-/// All members except the breaks, given the array of the breaks as a text, and the notes on differences that no rule judges: the
-/// format of the document, the command's word, the answer in a word, the exit number, the fault of an input, the numbers of exports
-/// without a type, the text that `abi` prints, the sentences beside the answer, and an object for each input. The inputs are read
-/// again for it, and no clause says that they give the bytes that the answer is about, or what the facts about types are.
-pub fn head_of<R: Files + AllocGlobal>(
-    rt: &R,
+/// All members except the breaks, given the array of the breaks as a text, and the notes on differences that no rule judges, with the
+/// reason why there are none: the format of the document, the command's word, the answer in a word, the exit number, the fault of an
+/// input, the numbers of exports without a type, the text that `abi` prints, the sentences beside the answer, and an object for each
+/// input. Digests and sonames are those of the bytes that the run read. No clause says what the facts about types are.
+pub fn head_of(
+    alloc: Global,
     ending: &Ending<'_>,
     breaks: &[u8],
     side_notes: Value,
+    missing: Value,
 ) -> Result<Value, NoMemory>
     ensures format { IfOk result (λ head. HasMember (codes "format") (number (unsigned 1)) (view head)) }
     ensures command { let command = command_word (map (λ word. word.now) ending.now.words.now) in
@@ -330,15 +353,17 @@ pub fn head_of<R: Files + AllocGlobal>(
     ensures notes { let files = map plain_file ending.now.files.now in
         IfOk result (λ head. HasSentences ending.now.outcome files ending.now.text.now (view head)) }
     ensures side_notes { IfOk result (λ head. HasMember (codes "side_notes") (view side_notes) (view head)) }
-    ensures inputs { let files = map plain_file ending.now.files.now in
-        IfOk result (λ head. HasInputs ending.now.wanted.digests files (view head)) }
+    ensures missing { IfOk result (λ head. HasMember (codes "missing_side_notes") (view missing) (view head)) }
+    ensures inputs { let files = map plain_file ending.now.files.now in let read = ending.now.read.now in
+        let shown = shown_of ending.now.wanted.digests read.roles.items (map items_of read.all.items) in
+        IfOk result (λ head. HasInputs shown files (view head)) }
     ensures places { IfOk result (λ head. HasFacts (codes "places") ending.now.outcome (view head)) }
     ensures types { IfOk result (λ head. HasFacts (codes "types") ending.now.outcome (view head)) }
 {
-    let alloc = rt.alloc();
     let mut others = Map::new(alloc);
-    put_notes(rt, &mut others, ending, side_notes)?;
-    put_inputs(rt, &mut others, ending, breaks)?;
+    put_missing(alloc, &mut others, missing)?;
+    put_notes(alloc, &mut others, ending, side_notes)?;
+    put_inputs(alloc, &mut others, ending, breaks)?;
     let text = text_of(alloc, ending.outcome, ending.text)?;
     Ok(with_ending(alloc, others, ending, text)?)
 }

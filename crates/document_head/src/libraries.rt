@@ -1,26 +1,24 @@
 // The facts about inputs in a document.
-ghost use Rattle.std.specs.Prelude.{◌≡◌, ◌≤◌, codes, length, IfOk};
+ghost use Rattle.std.specs.Prelude.{◌≡◌, ◌≤◌, codes, length, map, IfOk};
 ghost use Rattle.std.specs.Option.{option_copied};
 ghost use Rattle.sha2.specs.Sha256.{sha256};
 ghost use Rattle.abi_base.specs.Limits.{input_limit};
-ghost use Rattle.commands.specs.Commands.{plain_file};
+ghost use Rattle.commands.specs.Commands.{items_of, plain_file};
 ghost use Rattle.commands.specs.Inputs.{input_word};
 ghost use Rattle.document_head.specs.Heads.{IsTextOf};
-ghost use Rattle.document_head.specs.Inputs.{IsInput, IsNameOf, IsOfBytes, IsSoname, input_object};
+ghost use Rattle.document_head.specs.Inputs.{IsInput, IsNameOf, IsOfFile, IsSoname, input_object, shown_of};
 ghost use Rattle.document_head.specs.Inputs as spec;
 ghost use Rattle.serde_json.specs.Data.{member, no_members, null, string};
 ghost use Rattle.serde_json.specs.View.{members_view, view};
 
-use crate::files::bytes_of;
 use crate::places::{TypeFacts, type_facts};
 use abi_base::NoMemory;
-use commands::{File, Input};
+use commands::{File, Input, ReadInputs};
 use elf::file::read_elf;
 use elf::symbols::soname;
 use serde_json::{Map, Value, put};
 use sha2::{Digest, Sha256};
 use std::alloc::{AllocError, Global};
-use std::rt::Files;
 use std::str;
 
 /// The facts about an input in a document: its object, and the facts about the types that breaks name.
@@ -131,7 +129,7 @@ fn input_value(
     with_digests: bool,
 ) -> Result<Value, AllocError>
     requires { length bytes.now ≤ input_limit }
-    ensures { IfOk result (λ value. IsOfBytes with_digests (plain_file file.entry) (view value)) }
+    ensures { IfOk result (λ value. IsOfFile with_digests (plain_file file.entry) bytes.now (view value)) }
 {
     let mut input = named(alloc, file)?;
     let digest = digest_value(alloc, bytes, with_digests)?;
@@ -141,7 +139,7 @@ fn input_value(
     Ok(Value::Object(input))
 }
 
-// The object of an input that could not be read again.
+// The object of an input that was not read whole.
 fn unread_value(alloc: Global, file: File<'_>) -> Result<Value, AllocError>
     ensures { IfOk result (λ value. view value ≡ input_object (plain_file file.entry) null null) }
 {
@@ -160,7 +158,7 @@ fn entry_word(which: Input) -> Option<&'static str> {
     }
 }
 
-// The facts about an input that could not be read again.
+// The facts about an input that was not read whole.
 fn unread_facts(alloc: Global, file: File<'_>) -> Result<InputFacts, NoMemory>
     ensures { IfOk result (λ facts. view facts.input ≡ input_object (plain_file file.entry) null null) }
 {
@@ -194,24 +192,27 @@ fn facts_in(
     with_digests: bool,
 ) -> Result<InputFacts, NoMemory>
     requires { length bytes.now ≤ input_limit }
-    ensures { IfOk result (λ facts. IsOfBytes with_digests (plain_file file.entry) (view facts.input)) }
+    ensures { IfOk result (λ facts. IsOfFile with_digests (plain_file file.entry) bytes.now (view facts.input)) }
 {
     let types = types_in(alloc, file.which, bytes, breaks)?;
     let input = input_value(alloc, file, bytes, with_digests)?;
     Ok(InputFacts { input, types })
 }
 
-/// Reads an input again, and returns the facts about it.
-pub(crate) fn input_facts<R: Files + AllocGlobal>(
-    rt: &R,
+/// The facts about an input, by the bytes that were read.
+#[tactic(auto, using(crate::proofs::InputLemmas::of_read))]
+pub(crate) fn input_facts(
+    alloc: Global,
     file: File<'_>,
+    read: &ReadInputs,
     breaks: &[Value],
     with_digests: bool,
 ) -> Result<InputFacts, NoMemory>
-    ensures { IfOk result (λ facts. IsInput with_digests (plain_file file.entry) (view facts.input)) }
+    ensures { let shown = shown_of with_digests read.now.roles.items (map items_of read.now.all.items) in
+        IfOk result (λ facts. IsInput shown (plain_file file.entry) (view facts.input)) }
 {
-    match bytes_of(rt, file.name)? {
-        Some(bytes) => facts_in(rt.alloc(), file, &bytes, breaks, with_digests),
-        None => unread_facts(rt.alloc(), file),
+    match read.bytes_of(file.which) {
+        Some(bytes) => facts_in(alloc, file, bytes, breaks, with_digests),
+        None => unread_facts(alloc, file),
     }
 }

@@ -1,13 +1,11 @@
 -- What is said of the text of a certificate is one thing.
-use Rattle.std.proofs.Common.{◌≡◌, ℕ, List, [], ◌∷◌, ◌++◌, refl, sym, ◌∙◌, ap, subst}
+use Rattle.std.proofs.Common.{◌≡◌, ℕ, List, [], ◌∷◌, ◌++◌, Option, Some, None, refl, sym, ◌∙◌, ap, subst}
 use Rattle.std.specs.List.{AllByRecursion}
 use Rattle.cert_check.specs.Accepted.{Case, Place, Keeps, IsAccepted, IsFirstFailing, places, refused}
 use Rattle.cert_check.specs.Compatible.{Sides}
 use Rattle.cert_check.specs.declared.refused.Refused.{Refused}
 use Rattle.cert_text.specs.Certs.{PlainCert}
 use Rattle.cert_text.specs.Grammar.{IsSpelled}
-use Rattle.library_check.specs.declared.verifying.Verified.{Verified}
-use Rattle.library_check.specs.declared.verifying.Verified.TheVariants as verified
 use Rattle.library_check.specs.Checks.{sides_of}
 use Rattle.library_check.specs.Judgements.{IsCertificate}
 use Rattle.library_check.specs.Verifications.{IsAcceptance, IsFirstRefusal, IsRejection, IsVerified, case_for}
@@ -47,14 +45,14 @@ module _ (one_text : AreOneCertificate) where
       let same : one.cert ≡ other.cert = one_text text one.cert other.cert one.spelled other.spelled in
       refused_once once (case_for s other.cert) refusal another (subst (λ (cert : PlainCert). IsFirstRefusal (case_for s cert) refusal) same one.fails) other.fails
 
-  pub one_answer : FailsOnce → (old new rules certificate : List ℕ) (one other : Verified) → IsVerified old new rules certificate one → IsVerified old new rules certificate other → one ≡ other
-  one_answer once old new rules certificate verified.Accepted verified.Accepted one other = refl
-  one_answer once old new rules certificate verified.Accepted (verified.Refused refusal) one other =
+  pub one_answer : FailsOnce → (old new rules certificate : List ℕ) (one other : Option Refused) → IsVerified old new rules certificate one → IsVerified old new rules certificate other → one ≡ other
+  one_answer once old new rules certificate None None one other = refl
+  one_answer once old new rules certificate None (Some refusal) one other =
       absurd (apart (sides_of old new rules) certificate refusal one.1 other)
-  one_answer once old new rules certificate (verified.Refused refusal) verified.Accepted one other =
+  one_answer once old new rules certificate (Some refusal) None one other =
       absurd (apart (sides_of old new rules) certificate refusal other.1 one)
-  one_answer once old new rules certificate (verified.Refused refusal) (verified.Refused another) one other =
-      ap verified.Refused (one_refusal once (sides_of old new rules) certificate refusal another one other)
+  one_answer once old new rules certificate (Some refusal) (Some another) one other =
+      ap Some (one_refusal once (sides_of old new rules) certificate refusal another one other)
 
 -- ---- the text of a yes
 

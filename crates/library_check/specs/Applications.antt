@@ -13,11 +13,11 @@ use Rattle.report.specs.Listening.{Voice}
 use Rattle.report.specs.Render.{newline}
 use Rattle.cert_check.specs.Agreed.{IsAgreed}
 use Rattle.cert_check.specs.Compatible.{Sides, sides, IsCompatible, task_of}
+use Rattle.commands.specs.declared.verdict.Verdict.{Verdict}
+use Rattle.commands.specs.declared.verdict.Verdict.TheVariants.{Yes, No, Refused, Done}
 use Rattle.library_read.specs.Libraries.{library_of}
 use Rattle.suppression_text.specs.Rules.{PlainRules, rules_of}
 use Rattle.suppressions.specs.Marks.{marks_of}
-use Rattle.library_check.specs.declared.applying.AppJudged.{AppJudged}
-use Rattle.library_check.specs.declared.applying.AppJudged.TheVariants.{Yes, No}
 use Rattle.library_check.specs.Judgements.{IsRefusal}
 
 -- ---- libraries after they are read
@@ -44,9 +44,11 @@ abbrev pub uses_text : Sides → List ℕ
 uses_text s = concat (codes "yes app" ∷ newline ∷ use_lines s.old.exports s.marks.exports ∷ [])
 
 -- what is said about two libraries: yes with the compared exports, or no with the report on them
-abbrev pub IsSaidOfUsed : List Voice → Sides → AppJudged → Type 0
-IsSaidOfUsed voices s (Yes text) = IsCompatible s × (text.items ≡ uses_text s)
-IsSaidOfUsed voices s (No text) = (IsCompatible s → ⊥) × IsRefusal voices s text.items
+abbrev pub IsSaidOfUsed : List Voice → Sides → Verdict → List ℕ → Type 0
+IsSaidOfUsed voices s Yes text = IsCompatible s × (text ≡ uses_text s)
+IsSaidOfUsed voices s No text = (IsCompatible s → ⊥) × IsRefusal voices s text
+IsSaidOfUsed voices s Refused text = ⊥
+IsSaidOfUsed voices s Done text = ⊥
 
 -- ---- files
 
@@ -74,21 +76,6 @@ uses_for app old new rules = uses_text (sides_for app old new rules)
 -- the text of a no, with listeners of these voices
 abbrev pub IsAppReportText : List Voice → List ℕ → List ℕ → List ℕ → List ℕ → List ℕ → Type 0
 IsAppReportText voices app old new rules text = IsRefusal voices (sides_for app old new rules) text
-
--- what `app` says about a readable application, two readable libraries and a readable rule file
-abbrev pub IsAppJudged : List Voice → List ℕ → List ℕ → List ℕ → List ℕ → AppJudged → Type 0
-IsAppJudged voices app old new rules judged = IsSaidOfUsed voices (sides_for app old new rules) judged
-
--- the answer is yes
-abbrev pub IsYes : AppJudged → Type 0
-IsYes (Yes text) = Unit {0}
-IsYes (No text) = ⊥
-
--- two answers have the same verdict and the same text
-abbrev pub SameApp : AppJudged → AppJudged → Type 0
-SameApp (Yes text) (Yes other) = text.items ≡ other.items
-SameApp (No text) (No other) = text.items ≡ other.items
-SameApp one other = ⊥
 
 -- ---- imports
 

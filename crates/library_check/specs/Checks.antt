@@ -7,8 +7,7 @@ use Rattle.cert_check.specs.Agreed.{IsAgreed}
 use Rattle.cert_check.specs.Compatible.{Sides, IsCompatible, task_of}
 use Rattle.library_read.specs.Libraries.{library_of}
 use Rattle.suppression_text.specs.Rules.{rules_of}
-use Rattle.library_check.specs.declared.judging.Checked.{Checked}
-use Rattle.library_check.specs.Judgements.{ruled, IsCertificate, IsJudged, IsRefusal}
+use Rattle.library_check.specs.Judgements.{ruled, IsCertificate, IsRefusal}
 
 -- the libraries in two files, and what the rule file suppresses in the old one
 abbrev pub sides_of : List ℕ → List ℕ → List ℕ → Sides
@@ -37,8 +36,3 @@ IsCertificateText old new rules text = IsCertificate (sides_of old new rules) te
 -- the text of a no, with listeners of these voices
 abbrev pub IsReportText : List Voice → List ℕ → List ℕ → List ℕ → List ℕ → Type 0
 IsReportText voices old new rules text = IsRefusal voices (sides_of old new rules) text
-
--- what `check` says about two readable libraries and a readable rule file: yes with the certificate if the new library may replace
--- the old one, else no with the report
-abbrev pub IsChecked : List Voice → List ℕ → List ℕ → List ℕ → Checked → Type 0
-IsChecked voices old new rules checked = IsJudged voices (library_of old) (library_of new) (rules_of rules) checked

@@ -1,8 +1,8 @@
 -- What `compose` promises, given the bytes of three libraries of a chain and of two certificates: the certificate that the two
 -- compose, or else which one is refused or what is lost.
-use Rattle.std.specs.Prelude.{◌≡◌, ◌≤◌, ℕ, List, [], ◌∷◌, length}
+use Rattle.std.specs.Prelude.{◌≡◌, ◌⊎◌, ◌≤◌, ℕ, List, [], ◌∷◌, length}
 use Rattle.abi_base.specs.Limits.{input_limit}
-use Rattle.cert_check.specs.declared.refused.Refused.{Refused}
+use Rattle.cert_check.specs.declared.refused.Refused.{Refused as Refusal}
 use Rattle.cert_check.specs.Accepted.{Case, IsAccepted}
 use Rattle.cert_check.specs.Compatible.{Sides, IsCompatible}
 use Rattle.cert_compose.specs.Between.{NothingBetween}
@@ -11,13 +11,13 @@ use Rattle.cert_compose.specs.Composed.{IsComposed}
 use Rattle.cert_compose.specs.Refusals.{IsLost}
 use Rattle.cert_text.specs.Certs.{PlainCert}
 use Rattle.cert_text.specs.Grammar.{IsSpelled}
+use Rattle.commands.specs.declared.verdict.Verdict.{Verdict}
+use Rattle.commands.specs.declared.verdict.Verdict.TheVariants.{Yes, No, Refused, Done}
 use Rattle.library_read.specs.Libraries.{library_of}
 use Rattle.suppression_text.specs.Rules.{rules_of}
 use Rattle.library_check.specs.declared.composing.ChainFiles.{ChainFiles}
-use Rattle.library_check.specs.declared.composing.Composed.{Composed}
-use Rattle.library_check.specs.declared.composing.Composed.TheVariants.{Yes, First, Second, Between}
-use Rattle.library_check.specs.Checks.{Compatible}
 use Rattle.library_check.specs.Judgements.{ruled}
+use Rattle.library_check.specs.Text.{refused_first_text, refused_second_text, refused_text}
 use Rattle.library_check.specs.Verifications.{IsAcceptedText, IsFirstRefusal, IsRefusedText, case_for}
 
 -- three libraries and two certificates, by their bytes
@@ -76,17 +76,25 @@ pub record IsComposedFor (ch : PlainChain) (text : List ℕ) : Type 0 where
   pub short : length text ≤ input_limit
 
 -- this is the first loss between the first library and the last
-pub record LosesBetween (ch : PlainChain) (refusal : Refused) : Type 0 where
+pub record LosesBetween (ch : PlainChain) (refusal : Refusal) : Type 0 where
   pub accepted : AreAccepted ch
   pub lost : IsLost ch refusal.kind refusal.at
 
--- what is said about two certificates for a chain of libraries: a refusal of the first one comes first, then a refusal of the
--- second, then a loss
-abbrev pub IsJoined : PlainChain → Composed → Type 0
-IsJoined ch (Yes text) = IsCompatible (whole_sides ch) × IsComposedFor ch text.items
-IsJoined ch (First refusal) = IsFirstRefusal (first_case ch) refusal
-IsJoined ch (Second refusal) = IsAccepted (first_case ch) × IsFirstRefusal (second_case ch) refusal
-IsJoined ch (Between refusal) = LosesBetween ch refusal
+-- the text is the line on why two certificates do not compose: a refusal of the first one comes first, then a refusal of the second,
+-- then a loss
+abbrev pub JoinsNone : PlainChain → List ℕ → Type 0
+JoinsNone ch text =
+    (refusal : Refusal)
+    × ((IsFirstRefusal (first_case ch) refusal × (text ≡ refused_first_text refusal))
+    ⊎ ((IsAccepted (first_case ch) × IsFirstRefusal (second_case ch) refusal × (text ≡ refused_second_text refusal))
+    ⊎ (LosesBetween ch refusal × (text ≡ refused_text refusal))))
+
+-- what is said about two certificates for a chain of libraries
+abbrev pub IsJoined : PlainChain → Verdict → List ℕ → Type 0
+IsJoined ch Yes text = IsCompatible (whole_sides ch) × IsComposedFor ch text
+IsJoined ch Refused text = JoinsNone ch text
+IsJoined ch No text = ⊥
+IsJoined ch Done text = ⊥
 
 -- ---- texts
 
@@ -103,26 +111,19 @@ pub record IsComposedText (p : PlainFiles) (text : List ℕ) : Type 0 where
   pub whole : IsComposedFor (chain_with p one other) text
 
 -- the texts spell two accepted certificates, and this is the first loss between them
-pub record IsLostText (p : PlainFiles) (refusal : Refused) : Type 0 where
+pub record IsLostText (p : PlainFiles) (refusal : Refusal) : Type 0 where
   pub one : PlainCert
   pub other : PlainCert
   pub one_spelled : IsSpelled p.certificate1 one
   pub other_spelled : IsSpelled p.certificate2 other
   pub lost : LosesBetween (chain_with p one other) refusal
 
--- What `compose` says about readable inputs: yes, with the text of the composed certificate, which proves that the last library may
--- replace the first; or the refusal of the first certificate, for the first and the middle library; or, if the first is accepted,
--- the refusal of the second, for the middle and the last library; or, if both are accepted, what is lost between them.
-abbrev pub IsComposition : PlainFiles → Composed → Type 0
-IsComposition p (Yes text) = Compatible p.first p.last [] × IsComposedText p text.items
-IsComposition p (First refusal) = IsRefusedText p.first p.middle [] p.certificate1 refusal
-IsComposition p (Second refusal) = IsAcceptedText p.first p.middle [] p.certificate1 × IsRefusedText p.middle p.last [] p.certificate2 refusal
-IsComposition p (Between refusal) = IsLostText p refusal
-
--- two answers are of one kind, with the same text or the same refusal
-abbrev pub SameComposed : Composed → Composed → Type 0
-SameComposed (Yes text) (Yes other) = text.items ≡ other.items
-SameComposed (First refusal) (First another) = refusal ≡ another
-SameComposed (Second refusal) (Second another) = refusal ≡ another
-SameComposed (Between refusal) (Between another) = refusal ≡ another
-SameComposed one other = ⊥
+-- The two certificates do not compose, and P holds for the line that says why: the refusal of the first certificate, for the first and
+-- the middle library; or, if the first is accepted, the refusal of the second, for the middle and the last library; or, if both are
+-- accepted, what is lost between them.
+abbrev pub ComposesNone : PlainFiles → (List ℕ → Type 0) → Type 0
+ComposesNone p P =
+    (refusal : Refusal)
+    × ((IsRefusedText p.first p.middle [] p.certificate1 refusal × P (refused_first_text refusal))
+    ⊎ ((IsAcceptedText p.first p.middle [] p.certificate1 × IsRefusedText p.middle p.last [] p.certificate2 refusal × P (refused_second_text refusal))
+    ⊎ (IsLostText p refusal × P (refused_text refusal))))

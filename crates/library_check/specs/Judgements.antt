@@ -8,11 +8,11 @@ use Rattle.report.specs.Render.{newline}
 use Rattle.cert_check.specs.Compatible.{Sides, sides, IsCompatible}
 use Rattle.cert_text.specs.Certs.{PlainCert}
 use Rattle.cert_text.specs.Grammar.{IsSpelled}
+use Rattle.commands.specs.declared.verdict.Verdict.{Verdict}
+use Rattle.commands.specs.declared.verdict.Verdict.TheVariants.{Yes, No, Refused, Done}
 use Rattle.pair_compare.specs.Judged.{IsProved, IsRefuted}
 use Rattle.suppression_text.specs.Rules.{PlainRules}
 use Rattle.suppressions.specs.Marks.{marks_of}
-use Rattle.library_check.specs.declared.judging.Checked.{Checked}
-use Rattle.library_check.specs.declared.judging.Checked.TheVariants.{Yes, No}
 
 -- two libraries, where a rule file decides what is not compared
 abbrev pub ruled : PlainLibrary → PlainLibrary → PlainRules → Sides
@@ -37,6 +37,8 @@ pub record IsRefusal (voices : List Voice) (s : Sides) (text : List ℕ) : Type 
   pub report : IsReport voices rows text
 
 -- what `check` says about two libraries and a rule file, with listeners of these voices
-abbrev pub IsJudged : List Voice → PlainLibrary → PlainLibrary → PlainRules → Checked → Type 0
-IsJudged voices old new rules (Yes text) = IsCompatible (ruled old new rules) × IsCertificate (ruled old new rules) text.items
-IsJudged voices old new rules (No text) = (IsCompatible (ruled old new rules) → ⊥) × IsRefusal voices (ruled old new rules) text.items
+abbrev pub IsJudged : List Voice → PlainLibrary → PlainLibrary → PlainRules → Verdict → List ℕ → Type 0
+IsJudged voices old new rules Yes text = IsCompatible (ruled old new rules) × IsCertificate (ruled old new rules) text
+IsJudged voices old new rules No text = (IsCompatible (ruled old new rules) → ⊥) × IsRefusal voices (ruled old new rules) text
+IsJudged voices old new rules Refused text = ⊥
+IsJudged voices old new rules Done text = ⊥

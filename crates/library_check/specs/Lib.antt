@@ -5,6 +5,7 @@ pub mod Checks
 pub mod Applications
 pub mod Remarks
 pub mod Voices
+pub mod Text
 pub mod Verifications
 pub mod Relations
 pub mod Migrations

@@ -1,14 +1,11 @@
 -- What a certificate shows besides its verdict: a relation between types that proves a yes.
-use Rattle.std.specs.Prelude.{ℕ, List}
+use Rattle.std.specs.Prelude.{ℕ, List, Option, Some, None}
 use Rattle.cert_check.specs.Compatible.{Sides, task_of}
 use Rattle.cert_check.specs.Relation.{relation_of}
+use Rattle.cert_check.specs.declared.refused.Refused.{Refused}
 use Rattle.cert_text.specs.Certs.{PlainCert}
 use Rattle.cert_text.specs.Grammar.{IsSpelled}
 use Rattle.pair_rules.specs.Closed.{HoldsRoots, IsClosed}
-use Rattle.library_check.specs.declared.judging.Checked.{Checked}
-use Rattle.library_check.specs.declared.judging.Checked.TheVariants.{Yes, No}
-use Rattle.library_check.specs.declared.verifying.Verified.{Verified}
-use Rattle.library_check.specs.declared.verifying.Verified.TheVariants as verified
 use Rattle.library_check.specs.Checks.{sides_of}
 use Rattle.library_check.specs.Verifications.{case_for}
 
@@ -24,12 +21,7 @@ pub record SpellsRelation (s : Sides) (text : List ℕ) : Type 0 where
 abbrev pub IsRelationText : List ℕ → List ℕ → List ℕ → List ℕ → Type 0
 IsRelationText old new rules text = SpellsRelation (sides_of old new rules) text
 
--- a yes prints such a relation
-abbrev pub PrintsSuchRelation : List ℕ → List ℕ → List ℕ → Checked → Type 0
-PrintsSuchRelation old new rules (Yes text) = IsRelationText old new rules text.items
-PrintsSuchRelation old new rules (No text) = Unit {0}
-
 -- an accepted certificate shows such a relation
-abbrev pub AcceptsSuchRelation : List ℕ → List ℕ → List ℕ → List ℕ → Verified → Type 0
-AcceptsSuchRelation old new rules certificate verified.Accepted = IsRelationText old new rules certificate
-AcceptsSuchRelation old new rules certificate (verified.Refused refusal) = Unit {0}
+abbrev pub AcceptsSuchRelation : List ℕ → List ℕ → List ℕ → List ℕ → Option Refused → Type 0
+AcceptsSuchRelation old new rules certificate None = IsRelationText old new rules certificate
+AcceptsSuchRelation old new rules certificate (Some refusal) = Unit {0}

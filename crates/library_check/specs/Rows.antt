@@ -1,4 +1,4 @@
--- What each command asks of its inputs, and the limits that they pass.
+-- The commands: what each reads and says, and the limits that its inputs pass.
 pub mod App
 pub mod Check
 pub mod Compose

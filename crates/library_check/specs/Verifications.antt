@@ -1,6 +1,6 @@
 -- What `verify` promises: when a certificate is accepted, given the bytes of two libraries, a rule file and the certificate, and
 -- else which condition fails first.
-use Rattle.std.specs.Prelude.{◌≡◌, ℕ, List, Option}
+use Rattle.std.specs.Prelude.{◌≡◌, ℕ, List, Option, Some, None}
 use Rattle.abi_base.specs.declared.fault.Fault.{Fault}
 use Rattle.cert_check.specs.declared.refused.Refused.{Refused}
 use Rattle.cert_check.specs.Accepted.{Case, Place, IsAccepted, IsFirstFailing, places, refused}
@@ -9,8 +9,6 @@ use Rattle.cert_text.specs.Certs.{PlainCert}
 use Rattle.cert_text.specs.Faults.{fault_of}
 use Rattle.cert_text.specs.Grammar.{IsSpelled}
 use Rattle.cert_text.specs.declared.line.Version.TheVariants.{Two}
-use Rattle.library_check.specs.declared.verifying.Verified.{Verified}
-use Rattle.library_check.specs.declared.verifying.Verified.TheVariants as verified
 use Rattle.library_check.specs.Checks.{Compatible, sides_of}
 
 -- ---- one certificate
@@ -25,11 +23,11 @@ pub record IsFirstRefusal (c : Case) (refusal : Refused) : Type 0 where
   pub first : IsFirstFailing c (places c) place
   pub is : refusal ≡ refused c place
 
--- what is said about a certificate: accepted if it meets all conditions, which proves that the new library may replace the old one,
--- else refused
-abbrev pub IsSettled : Case → Verified → Type 0
-IsSettled c verified.Accepted = IsCompatible c.sides × IsAccepted c
-IsSettled c (verified.Refused refusal) = IsFirstRefusal c refusal
+-- the first condition that a certificate does not meet; if there is none, the certificate is accepted, which proves that the new
+-- library may replace the old one
+abbrev pub IsSettled : Case → Option Refused → Type 0
+IsSettled c None = IsCompatible c.sides × IsAccepted c
+IsSettled c (Some refusal) = IsFirstRefusal c refusal
 
 -- ---- texts
 
@@ -53,10 +51,10 @@ IsAcceptedText old new rules certificate = IsAcceptance (sides_of old new rules)
 abbrev pub IsRefusedText : List ℕ → List ℕ → List ℕ → List ℕ → Refused → Type 0
 IsRefusedText old new rules certificate refusal = IsRejection (sides_of old new rules) certificate refusal
 
--- what `verify` says about readable inputs
-abbrev pub IsVerified : List ℕ → List ℕ → List ℕ → List ℕ → Verified → Type 0
-IsVerified old new rules certificate verified.Accepted = Compatible old new rules × IsAcceptedText old new rules certificate
-IsVerified old new rules certificate (verified.Refused refusal) = IsRefusedText old new rules certificate refusal
+-- the first condition that a readable certificate does not meet; if there is none, the certificate is accepted
+abbrev pub IsVerified : List ℕ → List ℕ → List ℕ → List ℕ → Option Refused → Type 0
+IsVerified old new rules certificate None = Compatible old new rules × IsAcceptedText old new rules certificate
+IsVerified old new rules certificate (Some refusal) = IsRefusedText old new rules certificate refusal
 
 -- ---- faults
 

@@ -1,5 +1,5 @@
 // Whether a new library may replace an old one for one application, given their bytes and those of a rule file.
-ghost use Rattle.std.specs.Prelude.{◌≡◌, ◌≤◌, ◌++◌, [], ◌∷◌, None, length, map, All, OnOk, IfOk, IfErr, string_bytes, if◌then◌else◌};
+ghost use Rattle.std.specs.Prelude.{◌≡◌, ◌≤◌, ◌++◌, [], ◌∷◌, None, Some, length, map, All, OnOk, IfOk, IfErr, string_bytes, if◌then◌else◌};
 ghost use Rattle.abi_base.specs.declared.fault.NoMemory.TheVariants.{Allocation};
 ghost use Rattle.abi_base.specs.Limits.{input_limit};
 ghost use Rattle.abi_base.specs.Outcome.{OnLimit};
@@ -13,18 +13,18 @@ ghost use Rattle.commands.specs.declared.input.Input.TheVariants as input;
 ghost use Rattle.pair_compare.specs.Marking.{AreMarksOf};
 ghost use Rattle.suppressions.specs.Limits.{MarksPass};
 ghost use Rattle.suppressions.specs.Marks.{marks_of};
-ghost use Rattle.library_check.specs.Applications.{IsAppJudged, IsSaidOfUsed, sides_used, use_line, use_lines, used_by, uses_text};
+ghost use Rattle.library_check.specs.Applications.{IsSaidOfUsed, sides_used, use_line, use_lines, used_by, uses_text};
 ghost use Rattle.library_check.specs.Limits.{UsedPass};
-ghost use Rattle.library_check.specs.Remarks.{remark_on};
-ghost use Rattle.library_check.specs.Rows.App.{app_asks, app_passes};
+ghost use Rattle.library_check.specs.Remarks.{remark_of};
+ghost use Rattle.library_check.specs.Rows.App.{app_asks, app_passes, app_says};
 
 use crate::checking::{Inputs, read_inputs};
 use crate::judging::{compared, marks_by, report};
 use crate::remarks::remark;
-use abi_base::{NoMemory, Remark};
+use abi_base::NoMemory;
 use abi_types::{Export, Library, Marks, OldIx, push_label};
 use app_check::{Import, narrow, read_app, used};
-use commands::{Input, Stop, stop_at};
+use commands::{Input, Judgement, Stop, Verdict, stop_at};
 use pair_compare::Comparison;
 use report::Listener;
 use std::alloc::{AllocError, Global};
@@ -34,33 +34,15 @@ use suppression_text::Rules;
 
 /// The bytes of an application, an old and a new library, and a rule file.
 #[derive(Clone, Copy)]
-pub struct AppFiles<'x> {
+pub(crate) struct AppFiles<'x> {
     /// The application.
-    pub app: &'x [u8],
+    pub(crate) app: &'x [u8],
     /// The library that it uses.
-    pub old: &'x [u8],
+    pub(crate) old: &'x [u8],
     /// The library that may replace the old one.
-    pub new: &'x [u8],
+    pub(crate) new: &'x [u8],
     /// The rule file.
-    pub rules: &'x [u8],
-}
-
-/// What `app` says about readable inputs, with the text that shows it.
-#[derive(Drop)]
-pub enum AppJudged {
-    /// The new library may replace the old one for the application. The text names the exports that it uses.
-    Yes(Vec<u8>),
-    /// The new library may not replace the old one. The text is the report on the exports that the application uses.
-    No(Vec<u8>),
-}
-
-/// The result of `app`, with a remark.
-#[derive(Drop)]
-pub struct AppResult {
-    /// The verdict, with its text.
-    pub judged: AppJudged,
-    /// The number of exports of each library without a type in its debug information.
-    pub remark: Remark,
+    pub(crate) rules: &'x [u8],
 }
 
 // The imports of the application.
@@ -156,19 +138,30 @@ fn judge_used(
     imports: &[Import],
     inputs: &Inputs,
     listeners: Vec<Box<dyn Listener>>,
-) -> Result<AppJudged, NoMemory>
+) -> Result<Judgement, NoMemory>
     requires { All (λ listener. heard listener ≡ []) listeners.items }
-    ensures said { IfOk result (IsSaidOfUsed (map voice listeners.items)
-        (sides_used (plain_imports imports.now) inputs.now.pair.old inputs.now.pair.new inputs.now.rules)) }
+    ensures said { IfOk result (λ j. IsSaidOfUsed (map voice listeners.items)
+        (sides_used (plain_imports imports.now) inputs.now.pair.old inputs.now.pair.new inputs.now.rules)
+        j.verdict j.text.items) }
+    ensures remark { IfOk result (λ j. j.untyped ≡ Some (remark_of inputs.now.pair.old inputs.now.pair.new)) }
     ensures past { IfErr result (λ e. OnLimit e
         (UsedPass (plain_imports imports.now) inputs.now.pair.old inputs.now.pair.new inputs.now.rules)) }
 {
     let old = &inputs.pair.old;
     let new = &inputs.pair.new;
+    let untyped = Some(remark(old, new));
     let marks = marks_for(alloc, imports, &inputs.rules, old)?;
     match compared::<Brand>(alloc, Blank::new(1), old, new, &marks)? {
-        Comparison::Compatible(_) => Ok(AppJudged::Yes(uses(alloc, old, &marks)?)),
-        Comparison::Broken(rows) => Ok(AppJudged::No(report(alloc, listeners, rows.as_slice())?)),
+        Comparison::Compatible(_) => Ok(Judgement {
+            verdict: Verdict::Yes,
+            untyped,
+            text: uses(alloc, old, &marks)?,
+        }),
+        Comparison::Broken(rows) => Ok(Judgement {
+            verdict: Verdict::No,
+            untyped,
+            text: report(alloc, listeners, rows.as_slice())?,
+        }),
     }
 }
 
@@ -176,27 +169,25 @@ fn judge_used(
 /// yes with the exports that the application uses, or no with the texts that listeners make of every break of these. A fault is
 /// that of the first input that has one, in the order app, old, new, rules.
 #[tactic(auto, using(crate::proofs::StopLemmas::imports_stop_app, crate::proofs::StopLemmas::inputs_stop_app, crate::proofs::StopLemmas::used_stops_app))]
-pub fn app(
+pub(crate) fn app(
     alloc: Global,
     files: &AppFiles,
     listeners: Vec<Box<dyn Listener>>,
-) -> Result<AppResult, Stop>
+) -> Result<Judgement, Stop>
     requires app_short { length files.now.app.now ≤ input_limit }
     requires old_short { length files.now.old.now ≤ input_limit }
     requires new_short { length files.now.new.now ≤ input_limit }
     requires unheard { All (λ listener. heard listener ≡ []) listeners.items }
     ensures readable { OnOk result (AreReadable app_asks
         (files.now.app.now ∷ files.now.old.now ∷ files.now.new.now ∷ files.now.rules.now ∷ [])) }
-    ensures judged { IfOk result (λ said. IsAppJudged
-        (map voice listeners.items) files.now.app.now files.now.old.now files.now.new.now files.now.rules.now
-        said.judged) }
-    ensures remark { IfOk result (λ said. said.remark ≡ remark_on files.now.old.now files.now.new.now) }
+    ensures said { IfOk result (λ j. app_says (map voice listeners.items)
+        (files.now.app.now ∷ files.now.old.now ∷ files.now.new.now ∷ files.now.rules.now ∷ [])
+        j.verdict j.untyped j.text.items) }
     ensures stops { IfErr result (StopsAt app_asks app_passes
         (files.now.app.now ∷ files.now.old.now ∷ files.now.new.now ∷ files.now.rules.now ∷ [])) }
 {
     let imports = read_imports(alloc, files.app)?;
     let inputs = read_inputs(alloc, files.old, files.new, files.rules)?;
-    let remark = remark(&inputs.pair.old, &inputs.pair.new);
-    let judged = judge_used(alloc, &imports, &inputs, listeners)?;
-    Ok(AppResult { judged, remark })
+    let judgement = judge_used(alloc, &imports, &inputs, listeners)?;
+    Ok(judgement)
 }

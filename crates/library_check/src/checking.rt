@@ -10,19 +10,15 @@ ghost use Rattle.library_read.specs.Limits.{LibraryPasses};
 ghost use Rattle.suppression_text.specs.Classes.{PassesClasses};
 ghost use Rattle.suppression_text.specs.Faults.{rule_fault};
 ghost use Rattle.suppression_text.specs.Rules.{rules_of};
-ghost use Rattle.library_check.specs.Checks.{IsChecked};
 ghost use Rattle.library_check.specs.Inputs.{check_asks, pair_asks};
 ghost use Rattle.library_check.specs.Limits.{inputs_pass, pair_passes};
-ghost use Rattle.library_check.specs.Relations.{PrintsSuchRelation};
-ghost use Rattle.library_check.specs.Remarks.{remark_on};
-ghost use Rattle.library_check.specs.Rows.Check.{check_passes};
+ghost use Rattle.library_check.specs.Rows.Check.{check_passes, check_says};
 
-use crate::judging::{Checked, judge};
+use crate::judging::judge;
 use crate::laws::{an_accepted_certificate_tells_such_a_relation, no_rules_are_readable};
-use crate::remarks::remark;
-use abi_base::{NoMemory, Refusal, Remark};
+use abi_base::{NoMemory, Refusal};
 use abi_types::{Index, Library, NewIx, OldIx};
-use commands::{Input, Stop, stop_at};
+use commands::{Input, Judgement, Stop, stop_at};
 use library_read::copy::copied;
 use library_read::read_library;
 use report::Listener;
@@ -45,15 +41,6 @@ pub(crate) struct Inputs<'a> {
     pub(crate) pair: Pair<'a>,
     /// The rule file.
     pub(crate) rules: Rules,
-}
-
-/// The result of `check`, with a remark.
-#[derive(Drop)]
-pub struct CheckResult {
-    /// The verdict, with its text.
-    pub checked: Checked,
-    /// The number of exports of each library without a type in its debug information.
-    pub remark: Remark,
 }
 
 /// Reads the library of an input.
@@ -178,32 +165,29 @@ pub(crate) fn read_inputs<'a>(
 /// certificate, or no with the texts that listeners make of every break. A fault is that of the first input that has one, in the
 /// order old, new, rules.
 #[tactic(auto, using(crate::proofs::StopLemmas::inputs_stop_check, crate::proofs::StopLemmas::judgement_stops_check))]
-pub fn check(
+pub(crate) fn check(
     alloc: Global,
     old: &[u8],
     new: &[u8],
     rules: &[u8],
     listeners: Vec<Box<dyn Listener>>,
-) -> Result<CheckResult, Stop>
+) -> Result<Judgement, Stop>
     requires old_short { length old.now ≤ input_limit }
     requires new_short { length new.now ≤ input_limit }
     requires unheard { All (λ listener. heard listener ≡ []) listeners.items }
     ensures readable { OnOk result (AreReadable check_asks (old.now ∷ new.now ∷ rules.now ∷ [])) }
-    ensures judged { IfOk result (λ said. IsChecked
-        (map voice listeners.items) old.now new.now rules.now said.checked) }
-    ensures relation { IfOk result (λ said. PrintsSuchRelation old.now new.now rules.now said.checked) }
-    ensures remark { IfOk result (λ said. said.remark ≡ remark_on old.now new.now) }
+    ensures said { IfOk result (λ j. check_says (map voice listeners.items)
+        (old.now ∷ new.now ∷ rules.now ∷ []) j.verdict j.untyped j.text.items) }
     ensures stops { IfErr result (StopsAt check_asks check_passes (old.now ∷ new.now ∷ rules.now ∷ [])) }
 {
     an_accepted_certificate_tells_such_a_relation();
     let inputs = read_inputs(alloc, old, new, rules)?;
-    let remark = remark(&inputs.pair.old, &inputs.pair.new);
-    let checked = judge(
+    let judgement = judge(
         alloc,
         &inputs.pair.old,
         &inputs.pair.new,
         &inputs.rules,
         listeners,
     )?;
-    Ok(CheckResult { checked, remark })
+    Ok(judgement)
 }

@@ -10,15 +10,16 @@ ghost use Rattle.library_read.specs.Faults.{library_fault};
 ghost use Rattle.library_read.specs.Libraries.{library_of};
 ghost use Rattle.library_read.specs.Limits.{LibraryPasses};
 ghost use Rattle.suppression_text.specs.Rules.{rules_of};
-ghost use Rattle.library_check.specs.Compositions.{AreAccepted, IsComposition, IsJoined, bytes_in_order, first_case, plain_files};
+ghost use Rattle.library_check.specs.Compositions.{AreAccepted, IsJoined, bytes_in_order, first_case, plain_files};
 ghost use Rattle.library_check.specs.Judgements.{ruled};
 ghost use Rattle.library_check.specs.Limits.{ChainPasses, JoinPasses, SecondPasses, SettlementPasses, WritingPasses};
-ghost use Rattle.library_check.specs.Rows.Compose.{chain_asks, chain_passes, compose_asks, compose_passes};
+ghost use Rattle.library_check.specs.Rows.Compose.{chain_asks, chain_passes, compose_asks, compose_passes, compose_says};
 ghost use Rattle.library_check.specs.Verifications.{IsSettled, case_for};
 
 use crate::checking::{is_copied, no_rules, read_at};
 use crate::judging::certificate_text;
-use crate::verifying::{Verified, read_certificate, settle};
+use crate::text;
+use crate::verifying::{read_certificate, settle};
 use abi_base::{INPUT_LIMIT, Limit, NoMemory, Refusal};
 use abi_types::{Library, NewIx, OldIx};
 use cert_check::Refused;
@@ -27,7 +28,7 @@ use cert_check::laws::{
 };
 use cert_compose::{Chain, ComposeRefusal};
 use cert_text::{Cert, pairs_of};
-use commands::{Input, Stop};
+use commands::{Input, Judgement, Stop, Verdict};
 use library_read::copy::copied;
 use library_read::read_library;
 use std::alloc::Global;
@@ -37,30 +38,17 @@ const PAIR_ROOM: usize = 16;
 
 /// The bytes of three libraries and two certificates.
 #[derive(Clone, Copy)]
-pub struct ChainFiles<'x> {
+pub(crate) struct ChainFiles<'x> {
     /// The first library.
-    pub first: &'x [u8],
+    pub(crate) first: &'x [u8],
     /// The library that may replace the first one.
-    pub middle: &'x [u8],
+    pub(crate) middle: &'x [u8],
     /// The library that may replace the middle one.
-    pub last: &'x [u8],
+    pub(crate) last: &'x [u8],
     /// The certificate for the first library and the middle one.
-    pub certificate1: &'x [u8],
+    pub(crate) certificate1: &'x [u8],
     /// The certificate for the middle library and the last one.
-    pub certificate2: &'x [u8],
-}
-
-/// What `compose` says about readable inputs.
-#[derive(Drop)]
-pub enum Composed {
-    /// The last library may replace the first one. This is the text of the composed certificate.
-    Yes(Vec<u8>),
-    /// The first certificate is refused for the first and the middle library. This is the first condition that it does not meet.
-    First(Refused),
-    /// The first certificate is accepted, and the second is refused for the middle and the last library.
-    Second(Refused),
-    /// Both certificates are accepted, and this is lost if the middle library is skipped.
-    Between(Refused),
+    pub(crate) certificate2: &'x [u8],
 }
 
 /// Three libraries of a chain. Their types borrow names from the files' bytes. The middle one is held twice, once for each side.
@@ -146,14 +134,14 @@ fn written(alloc: Global, cert: &Cert) -> Result<Vec<u8>, NoMemory>
     Ok(text)
 }
 
-// What is said about a certificate for two libraries, with an empty rule file.
+// The first condition that a certificate for two libraries does not meet, with an empty rule file.
 #[tactic(auto, using(crate::proofs::LimitLemmas::settlement_by))]
 fn settle_unmarked(
     alloc: Global,
     old: &Library<OldIx>,
     new: &Library<NewIx>,
     cert: &Cert,
-) -> Result<Verified, NoMemory>
+) -> Result<Option<Refused>, NoMemory>
     ensures settled { IfOk result (IsSettled (case_for (ruled old.now new.now (rules_of [])) cert.now)) }
     ensures past { IfErr result (λ e. OnLimit e (SettlementPasses old.now new.now (rules_of []) cert.now)) }
 {
@@ -185,12 +173,13 @@ fn join_accepted(
     alloc: Global,
     libraries: &Libraries,
     certificates: &Certificates,
-) -> Result<Composed, NoMemory>
+) -> Result<Judgement, NoMemory>
     requires copied { libraries.now.middle_old ≡ libraries.now.middle_new }
     requires accepted { AreAccepted (joint libraries.now.first libraries.now.middle_new libraries.now.last
         certificates.now.one certificates.now.other) }
-    ensures joined { IfOk result (IsJoined (joint libraries.now.first libraries.now.middle_new
-        libraries.now.last certificates.now.one certificates.now.other)) }
+    ensures joined { IfOk result (λ j. IsJoined (joint libraries.now.first libraries.now.middle_new
+        libraries.now.last certificates.now.one certificates.now.other) j.verdict j.text.items) }
+    ensures unremarked { IfOk result (λ j. j.untyped ≡ None) }
     ensures past { IfErr result (λ e. OnLimit e
         (JoinPasses (joint libraries.now.first libraries.now.middle_new libraries.now.last certificates.now.one
         certificates.now.other))) }
@@ -206,8 +195,16 @@ fn join_accepted(
         last: &libraries.last,
     };
     match cert_compose::compose(alloc, &chain, &certificates.one, &certificates.other) {
-        Ok(cert) => Ok(Composed::Yes(written(alloc, &cert)?)),
-        Err(ComposeRefusal::Between(refused)) => Ok(Composed::Between(refused)),
+        Ok(cert) => Ok(Judgement {
+            verdict: Verdict::Yes,
+            untyped: None,
+            text: written(alloc, &cert)?,
+        }),
+        Err(ComposeRefusal::Between(refused)) => Ok(Judgement {
+            verdict: Verdict::Refused,
+            untyped: None,
+            text: text::refused(alloc, refused)?,
+        }),
         Err(ComposeRefusal::NoMemory(cause)) => Err(cause),
     }
 }
@@ -218,13 +215,14 @@ fn join_second(
     alloc: Global,
     libraries: &Libraries,
     certificates: &Certificates,
-) -> Result<Composed, NoMemory>
+) -> Result<Judgement, NoMemory>
     requires copied { libraries.now.middle_old ≡ libraries.now.middle_new }
     requires accepted { IsAccepted (first_case
         (joint libraries.now.first libraries.now.middle_new libraries.now.last certificates.now.one
         certificates.now.other)) }
-    ensures joined { IfOk result (IsJoined (joint libraries.now.first libraries.now.middle_new
-        libraries.now.last certificates.now.one certificates.now.other)) }
+    ensures joined { IfOk result (λ j. IsJoined (joint libraries.now.first libraries.now.middle_new
+        libraries.now.last certificates.now.one certificates.now.other) j.verdict j.text.items) }
+    ensures unremarked { IfOk result (λ j. j.untyped ≡ None) }
     ensures past { IfErr result (λ e. OnLimit e
         (SecondPasses (joint libraries.now.first libraries.now.middle_new libraries.now.last
         certificates.now.one certificates.now.other))) }
@@ -235,8 +233,12 @@ fn join_second(
         &libraries.last,
         &certificates.other,
     )? {
-        Verified::Accepted => Ok(join_accepted(alloc, libraries, certificates)?),
-        Verified::Refused(refused) => Ok(Composed::Second(refused)),
+        None => Ok(join_accepted(alloc, libraries, certificates)?),
+        Some(refused) => Ok(Judgement {
+            verdict: Verdict::Refused,
+            untyped: None,
+            text: text::refused_second(alloc, refused)?,
+        }),
     }
 }
 
@@ -246,10 +248,11 @@ fn join(
     alloc: Global,
     libraries: &Libraries,
     certificates: &Certificates,
-) -> Result<Composed, NoMemory>
+) -> Result<Judgement, NoMemory>
     requires { libraries.now.middle_old ≡ libraries.now.middle_new }
-    ensures joined { IfOk result (IsJoined (joint libraries.now.first libraries.now.middle_new
-        libraries.now.last certificates.now.one certificates.now.other)) }
+    ensures joined { IfOk result (λ j. IsJoined (joint libraries.now.first libraries.now.middle_new
+        libraries.now.last certificates.now.one certificates.now.other) j.verdict j.text.items) }
+    ensures unremarked { IfOk result (λ j. j.untyped ≡ None) }
     ensures past { IfErr result (λ e. OnLimit e
         (ChainPasses (joint libraries.now.first libraries.now.middle_new libraries.now.last certificates.now.one
         certificates.now.other))) }
@@ -260,22 +263,27 @@ fn join(
         &libraries.middle_new,
         &certificates.one,
     )? {
-        Verified::Accepted => Ok(join_second(alloc, libraries, certificates)?),
-        Verified::Refused(refused) => Ok(Composed::First(refused)),
+        None => Ok(join_second(alloc, libraries, certificates)?),
+        Some(refused) => Ok(Judgement {
+            verdict: Verdict::Refused,
+            untyped: None,
+            text: text::refused_first(alloc, refused)?,
+        }),
     }
 }
 
 /// Composes the certificate that the last library of a chain may replace the first, from one certificate that the middle library
-/// may replace the first, and one that the last may replace the middle one. Else it returns the first refusal: of the first
+/// may replace the first, and one that the last may replace the middle one. Else it is refused, with the first refusal: of the first
 /// certificate, of the second one, or for what is lost between them. There are no suppressions. A fault is that of the first input
 /// that has one.
 #[tactic(auto, using(crate::proofs::StopLemmas::libraries_stop_compose, crate::proofs::StopLemmas::one_stops_compose, crate::proofs::StopLemmas::other_stops_compose))]
-pub fn compose(alloc: Global, files: &ChainFiles) -> Result<Composed, Stop>
+pub(crate) fn compose(alloc: Global, files: &ChainFiles) -> Result<Judgement, Stop>
     requires first_short { length files.now.first.now ≤ input_limit }
     requires middle_short { length files.now.middle.now ≤ input_limit }
     requires last_short { length files.now.last.now ≤ input_limit }
     ensures readable { OnOk result (AreReadable compose_asks (bytes_in_order (plain_files files.now))) }
-    ensures composed { IfOk result (IsComposition (plain_files files.now)) }
+    ensures said { IfOk result (λ j. compose_says (bytes_in_order (plain_files files.now))
+        j.verdict j.untyped j.text.items) }
     ensures stops { IfErr result (StopsAt compose_asks compose_passes (bytes_in_order (plain_files files.now))) }
 {
     let libraries = read_libraries(alloc, files)?;
@@ -285,7 +293,7 @@ pub fn compose(alloc: Global, files: &ChainFiles) -> Result<Composed, Stop>
         Err(stop) => return Err(stop),
     };
     match join(alloc, &libraries, &Certificates { one, other }) {
-        Ok(composed) => Ok(composed),
+        Ok(judgement) => Ok(judgement),
         Err(cause) => Err(Stop::NoMemory(cause)),
     }
 }

@@ -1,5 +1,5 @@
 // What is said about two libraries after they are read.
-ghost use Rattle.std.specs.Prelude.{◌≡◌, ◌<◌, [], map, All, IfErr, IfOk};
+ghost use Rattle.std.specs.Prelude.{◌≡◌, ◌<◌, [], Some, map, All, IfErr, IfOk};
 ghost use Rattle.abi_base.specs.declared.fault.NoMemory.TheVariants.{Allocation};
 ghost use Rattle.abi_base.specs.Outcome.{OnLimit};
 ghost use Rattle.cert_check.specs.Compatible.{sides};
@@ -11,10 +11,13 @@ ghost use Rattle.suppressions.specs.Limits.{MarksPass};
 ghost use Rattle.suppressions.specs.Marks.{marks_of};
 ghost use Rattle.library_check.specs.Judgements.{IsJudged, IsReport};
 ghost use Rattle.library_check.specs.Limits.{JudgementPasses};
+ghost use Rattle.library_check.specs.Remarks.{remark_of};
 
+use crate::remarks::remark;
 use abi_base::NoMemory;
 use abi_types::{Library, Marks, NewIx, OldIx};
 use cert_text::{Cert, write_cert};
+use commands::{Judgement, Verdict};
 use pair_compare::{Comparison, compare};
 use pair_rules::Steps;
 use report::{Listener, Row, tell_all};
@@ -23,15 +26,6 @@ use std::marker::Brand;
 use std::sync::ledger::{Blank, Ledger};
 use suppression_text::Rules;
 use suppressions::marks;
-
-/// What `check` says about two readable libraries, with the text that shows it.
-#[derive(Drop)]
-pub enum Checked {
-    /// The new library may replace the old one. The text is the certificate.
-    Yes(Vec<u8>),
-    /// The new library may not replace the old one. The text is the report.
-    No(Vec<u8>),
-}
 
 // The exports and types of the old library that a rule file suppresses.
 pub(crate) fn marks_by(
@@ -98,14 +92,25 @@ pub fn judge(
     new: &Library<NewIx>,
     rules: &Rules,
     listeners: Vec<Box<dyn Listener>>,
-) -> Result<Checked, NoMemory>
+) -> Result<Judgement, NoMemory>
     requires { All (λ listener. heard listener ≡ []) listeners.items }
-    ensures judged { IfOk result (IsJudged (map voice listeners.items) old.now new.now rules.now) }
+    ensures judged { IfOk result (λ j. IsJudged
+        (map voice listeners.items) old.now new.now rules.now j.verdict j.text.items) }
+    ensures remark { IfOk result (λ j. j.untyped ≡ Some (remark_of old.now new.now)) }
     ensures past { IfErr result (λ e. OnLimit e (JudgementPasses old.now new.now rules.now)) }
 {
+    let untyped = Some(remark(old, new));
     let marks = marks_by(alloc, rules, old)?;
     match compared::<Brand>(alloc, Blank::new(1), old, new, &marks)? {
-        Comparison::Compatible(cert) => Ok(Checked::Yes(certificate_text(alloc, &cert)?)),
-        Comparison::Broken(rows) => Ok(Checked::No(report(alloc, listeners, rows.as_slice())?)),
+        Comparison::Compatible(cert) => Ok(Judgement {
+            verdict: Verdict::Yes,
+            untyped,
+            text: certificate_text(alloc, &cert)?,
+        }),
+        Comparison::Broken(rows) => Ok(Judgement {
+            verdict: Verdict::No,
+            untyped,
+            text: report(alloc, listeners, rows.as_slice())?,
+        }),
     }
 }

@@ -1,6 +1,6 @@
 //! What the answers of `check`, `app`, `verify`, `migrate` and `compose` imply. Each law is the contract of a function that only
 //! cites the laws below it.
-ghost use Rattle.std.specs.Prelude.{◌≡◌, ◌≢◌, ◌≤◌, ◌↔◌, ℕ, List, [], ◌∷◌, None, length, All};
+ghost use Rattle.std.specs.Prelude.{◌≡◌, ◌≢◌, ◌≤◌, ◌↔◌, ℕ, List, [], ◌∷◌, Option, None, length, All};
 ghost use Rattle.abi_base.specs.Limits.{input_limit};
 ghost use Rattle.abi_types.specs.Libraries.{PlainLibrary};
 ghost use Rattle.accesses.specs.LeafPlaces.{LeavesStay};
@@ -17,21 +17,21 @@ ghost use Rattle.suppression_text.specs.Faults.{rule_fault};
 ghost use Rattle.suppression_text.specs.Rules.{rules_of};
 ghost use Rattle.suppressions.specs.Marks.{marks_of};
 ghost use Rattle.suppressions.specs.Reasons.{HasNoWays};
-ghost use Rattle.library_check.specs.declared.composing.Composed.{Composed};
-ghost use Rattle.library_check.specs.declared.migrating.Migrated.{Migrated};
-ghost use Rattle.library_check.specs.declared.verifying.Verified.{Verified};
-ghost use Rattle.library_check.specs.declared.verifying.Verified.TheVariants.{Accepted};
-ghost use Rattle.library_check.specs.declared.applying.AppJudged.{AppJudged};
-ghost use Rattle.library_check.specs.Applications.{AgreedFor, ImportTheSame, IsAppJudged, IsAppReportText, IsCompatibleFor, IsYes, KeepsLeavesFor, SameApp, sides_for};
+ghost use Rattle.library_check.specs.Applications.{AgreedFor, ImportTheSame, IsAppReportText, IsCompatibleFor, KeepsLeavesFor, sides_for};
 ghost use Rattle.commands.specs.Faults.{AreReadable, IsOutOfMemory, StopsAt};
 ghost use Rattle.commands.specs.declared.stop.Stop.{Stop as AnyStop};
+ghost use Rattle.commands.specs.declared.verdict.Verdict.{Verdict};
+ghost use Rattle.commands.specs.declared.verdict.Verdict.TheVariants.{Yes};
 ghost use Rattle.library_check.specs.Checks.{Agreed, Compatible, IsCertificateText, IsReportText, sides_of};
-ghost use Rattle.library_check.specs.Compositions.{IsComposedText, IsComposition, PlainFiles, SameComposed};
-ghost use Rattle.library_check.specs.Migrations.{IsMigrated, IsMigratedText, IsRefusedMigration, SameMigrated};
+ghost use Rattle.library_check.specs.Compositions.{IsComposedText, IsLostText, PlainFiles};
+ghost use Rattle.library_check.specs.Migrations.{IsMigratedText, IsRefusedMigration};
 ghost use Rattle.library_check.specs.Inputs.{check_asks};
 ghost use Rattle.library_check.specs.Relations.{IsRelationText};
+ghost use Rattle.library_check.specs.Rows.App.{AppSays};
+ghost use Rattle.library_check.specs.Rows.Compose.{ComposeSays};
+ghost use Rattle.library_check.specs.Rows.Migrate.{MigrateSays};
 ghost use Rattle.library_check.specs.Rows.Verify.{verify_asks, verify_passes};
-ghost use Rattle.library_check.specs.Verifications.{IsAcceptedText, IsVerified, certificate_fault};
+ghost use Rattle.library_check.specs.Verifications.{IsAcceptedText, IsRefusedText, IsVerified, certificate_fault};
 ghost use Rattle.library_check.specs.Voices.{TellsItsText};
 ghost use Rattle.report.specs.declared.styles.report_option.ReportStyle.{ReportStyle as AnyWanted};
 ghost use Rattle.report.specs.declared.styles.report_option.ReportStyle.TheVariants.{Own};
@@ -86,8 +86,8 @@ pub fn the_rows_decide_the_texts_of_a_style()
 /// `verify` gives one answer on a certificate for the same inputs: it never both accepts and refuses it, and refuses it for one
 /// condition.
 pub fn a_verification_has_one_answer()
-    ensures { (old new rules certificate : List ℕ) (one other : Verified) → IsVerified old new rules certificate one
-        → IsVerified old new rules certificate other → one ≡ other }
+    ensures { (old new rules certificate : List ℕ) (one other : Option Refused)
+        → IsVerified old new rules certificate one → IsVerified old new rules certificate other → one ≡ other }
 {
     a_text_is_of_one_certificate();
     one_place_fails_first();
@@ -100,8 +100,8 @@ pub fn what_check_prints_is_accepted()
         → certificate_fault text ≡ None }
     ensures accepted { (old new rules text : List ℕ) → IsCertificateText old new rules text
         → IsAcceptedText old new rules text }
-    ensures alone { (old new rules text : List ℕ) (verified : Verified) → IsCertificateText old new rules text
-        → IsVerified old new rules text verified → verified ≡ Accepted }
+    ensures alone { (old new rules text : List ℕ) (unmet : Option Refused) → IsCertificateText old new rules text
+        → IsVerified old new rules text unmet → unmet ≡ None }
     ensures memory { (old new rules text : List ℕ) (stop : AnyStop) → AreReadable check_asks (old ∷ new ∷ rules ∷ [])
         → IsCertificateText old new rules text
         → StopsAt verify_asks verify_passes (old ∷ new ∷ rules ∷ text ∷ []) stop → IsOutOfMemory stop }
@@ -168,9 +168,9 @@ pub fn what_is_migrated_is_accepted()
 /// `migrate` gives one answer on a certificate of version 1 for the same inputs: it prints one text, or refuses for one condition,
 /// never both.
 pub fn a_migration_has_one_answer()
-    ensures answer { (old new rules certificate : List ℕ) (one other : Migrated)
-        → IsMigrated old new rules certificate one → IsMigrated old new rules certificate other
-        → SameMigrated one other }
+    ensures answer { (old new rules certificate : List ℕ) (v w : Verdict) (text other : List ℕ)
+        → MigrateSays old new rules certificate v text → MigrateSays old new rules certificate w other
+        → (v ≡ w) × (text ≡ other) }
     ensures text { (old new rules certificate text other : List ℕ) → IsMigratedText old new rules certificate text
         → IsMigratedText old new rules certificate other → text ≡ other }
     ensures refusal { (old new rules certificate : List ℕ) (refusal another : Refused)
@@ -184,12 +184,19 @@ pub fn a_migration_has_one_answer()
 }
 
 /// `compose` gives one answer on two certificates for the same three libraries: it prints one text, or refuses the first or the
-/// second certificate for one condition, or names one loss between them.
+/// second certificate for one condition, or names one loss between them. These exclude each other: no certificate is both accepted
+/// and refused, and nothing is lost between certificates that compose.
 pub fn a_composition_has_one_answer()
-    ensures answer { (p : PlainFiles) (one other : Composed) → IsComposition p one → IsComposition p other
-        → SameComposed one other }
+    ensures answer { (p : PlainFiles) (v w : Verdict) (text other : List ℕ)
+        → ComposeSays p v text → ComposeSays p w other → (v ≡ w) × (text ≡ other) }
     ensures text { (p : PlainFiles) (text other : List ℕ) → IsComposedText p text → IsComposedText p other
         → text ≡ other }
+    ensures apart { (old new rules certificate : List ℕ) (refusal : Refused)
+        → IsAcceptedText old new rules certificate → IsRefusedText old new rules certificate refusal → ⊥ }
+    ensures loss { (p : PlainFiles) (refusal another : Refused)
+        → IsLostText p refusal → IsLostText p another → refusal ≡ another }
+    ensures lossless { (p : PlainFiles) (text : List ℕ) (refusal : Refused)
+        → IsComposedText p text → IsLostText p refusal → ⊥ }
 {
     a_text_is_of_one_certificate();
     one_place_fails_first();
@@ -236,10 +243,11 @@ pub fn an_application_has_one_answer()
     ensures report { (voices : List Voice) (app old new rules text other : List ℕ) → All TellsItsText voices
         → length old ≤ input_limit → length new ≤ input_limit → library_fault old ≡ None → library_fault new ≡ None
         → IsAppReportText voices app old new rules text → IsAppReportText voices app old new rules other → text ≡ other }
-    ensures answer { (voices : List Voice) (app old new rules : List ℕ) (one other : AppJudged)
+    ensures answer { (voices : List Voice) (app old new rules : List ℕ) (v w : Verdict) (text other : List ℕ)
         → All TellsItsText voices → length old ≤ input_limit → length new ≤ input_limit → library_fault old ≡ None
         → library_fault new ≡ None
-        → IsAppJudged voices app old new rules one → IsAppJudged voices app old new rules other → SameApp one other }
+        → AppSays voices app old new rules v text → AppSays voices app old new rules w other
+        → (v ≡ w) × (text ≡ other) }
 {
     two_libraries_have_one_right_answer();
     nodes_stand_for_what_exports_reach();
@@ -250,10 +258,11 @@ pub fn an_application_has_one_answer()
 pub fn applications_that_import_the_same_are_judged_alike()
     ensures sides { (app other old new rules : List ℕ) → ImportTheSame app other
         → sides_for app old new rules ≡ sides_for other old new rules }
-    ensures answer { (voices : List Voice) (app other old new rules : List ℕ) (said told : AppJudged)
+    ensures answer { (voices : List Voice) (app other old new rules : List ℕ) (v w : Verdict) (text answer : List ℕ)
         → All TellsItsText voices → length old ≤ input_limit → length new ≤ input_limit → library_fault old ≡ None
-        → library_fault new ≡ None
-        → ImportTheSame app other → IsAppJudged voices app old new rules said → IsAppJudged voices other old new rules told → SameApp said told }
+        → library_fault new ≡ None → ImportTheSame app other
+        → AppSays voices app old new rules v text → AppSays voices other old new rules w answer
+        → (v ≡ w) × (text ≡ answer) }
 {
     two_libraries_have_one_right_answer();
     nodes_stand_for_what_exports_reach();
@@ -262,8 +271,8 @@ pub fn applications_that_import_the_same_are_judged_alike()
 /// A new library that may replace an old one may do so for each application, since no more is compared: `app` says yes.
 pub fn what_may_replace_may_for_each_application()
     ensures compatible { (app old new rules : List ℕ) → Compatible old new rules → IsCompatibleFor app old new rules }
-    ensures yes { (voices : List Voice) (app old new rules : List ℕ) (said : AppJudged) → Compatible old new rules
-        → IsAppJudged voices app old new rules said → IsYes said }
+    ensures yes { (voices : List Voice) (app old new rules : List ℕ) (v : Verdict) (text : List ℕ)
+        → Compatible old new rules → AppSays voices app old new rules v text → v ≡ Yes }
 {
     roots_are_typed_pairs();
 }

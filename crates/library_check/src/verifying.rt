@@ -22,15 +22,6 @@ use commands::{Input, Stop, stop_at};
 use std::alloc::Global;
 use suppression_text::Rules;
 
-/// What `verify` says about a readable certificate.
-#[derive(Clone, Copy)]
-pub enum Verified {
-    /// The certificate proves that the new library may replace the old one.
-    Accepted,
-    /// The certificate does not prove it. This is the first condition that it does not meet.
-    Refused(Refused),
-}
-
 /// Reads the certificate of an input. It passes no limit: memory runs out only where an allocation fails.
 pub(crate) fn read_certificate(alloc: Global, which: Input, bytes: &[u8]) -> Result<Cert, Stop>
     ensures readable { OnOk result (certificate_fault bytes.now ≡ None) }
@@ -43,7 +34,8 @@ pub(crate) fn read_certificate(alloc: Global, which: Input, bytes: &[u8]) -> Res
     }
 }
 
-/// What is said about a certificate for two libraries and a rule file after they are read.
+/// The first condition that a certificate for two libraries and a rule file does not meet after they are read. If there is none, the
+/// certificate is accepted.
 #[tactic(auto, using(crate::proofs::LimitLemmas::marks_settle, crate::proofs::LimitLemmas::lines_settle))]
 pub(crate) fn settle(
     alloc: Global,
@@ -51,7 +43,7 @@ pub(crate) fn settle(
     new: &Library<NewIx>,
     rules: &Rules,
     cert: &Cert,
-) -> Result<Verified, NoMemory>
+) -> Result<Option<Refused>, NoMemory>
     ensures settled { IfOk result (IsSettled (case_for (ruled old.now new.now rules.now) cert.now)) }
     ensures past { IfErr result (λ e. OnLimit e (SettlementPasses old.now new.now rules.now cert.now)) }
 {
@@ -62,21 +54,22 @@ pub(crate) fn settle(
     let marks = marks_by(alloc, rules, old)?;
     pairs_fit(old, new, &marks, cert)?;
     match check_cert(old, new, &marks, cert) {
-        Ok(()) => Ok(Verified::Accepted),
-        Err(refused) => Ok(Verified::Refused(refused)),
+        Ok(()) => Ok(None),
+        Err(refused) => Ok(Some(refused)),
     }
 }
 
-/// Whether a certificate proves that a new library may replace an old one in all that a rule file does not suppress, given their
-/// bytes. A fault is that of the first input that has one, in the order old, new, rules, certificate.
+/// The first condition that a certificate does not meet. If there is none, it proves that a new library may replace an old one in all
+/// that a rule file does not suppress, given their bytes. A fault is that of the first input that has one, in the order old, new,
+/// rules, certificate.
 #[tactic(auto, using(crate::proofs::StopLemmas::inputs_stop_verify, crate::proofs::StopLemmas::certificate_stops_verify, crate::proofs::StopLemmas::settlement_stops_verify))]
-pub fn verify(
+pub(crate) fn verify(
     alloc: Global,
     old: &[u8],
     new: &[u8],
     rules: &[u8],
     certificate: &[u8],
-) -> Result<Verified, Stop>
+) -> Result<Option<Refused>, Stop>
     requires old_short { length old.now ≤ input_limit }
     requires new_short { length new.now ≤ input_limit }
     ensures readable { OnOk result (AreReadable verify_asks

@@ -1,6 +1,6 @@
 -- Over two libraries that fit in memory, `check` has a verdict, and which one it is says whether the new library may replace the
 -- old one.
-use Rattle.std.proofs.Common.{◌≡◌, ◌≢◌, ◌↔◌, ◌≤◌, ◌+◌, ℕ, min, length, List, [], ◌∷◌, Option, Some, None, IsSome, refl, sym, ◌∙◌, ap, subst, arith}
+use Rattle.std.proofs.Common.{◌≡◌, ◌≢◌, ◌↔◌, ◌≤◌, ℕ, length, List, [], ◌∷◌, Option, Some, None, IsSome, refl, sym, ◌∙◌, ap, subst, arith}
 use Rattle.std.specs.Prelude.{codes, map}
 use Rattle.abi_base.specs.Causes.{Rose, SameCounts}
 use Rattle.abi_base.specs.Limits.{sink_room}
@@ -8,8 +8,6 @@ use Rattle.abi_base.specs.declared.fault.NoMemory.{NoMemory as Cause}
 use Rattle.abi_base.specs.declared.remark.Remark.{Remark}
 use Rattle.abi_top.specs.Answer.{Answers, AsksForTold, HasRoom, row_of}
 use Rattle.abi_top.specs.Calls.{Call}
-use Rattle.abi_top.specs.Inputs.{library_at, rules_at}
-use Rattle.abi_top.specs.Rows.Check.{CheckSays, check_says}
 use Rattle.cli_args.specs.Commands.{PlainRequest, check}
 use Rattle.cli_args.specs.ParsedArguments.{arguments_by, request}
 use Rattle.cli_args.specs.Words.{IsNoOption}
@@ -25,7 +23,9 @@ use Rattle.commands.specs.declared.verdict.Verdict.TheVariants.{Yes, No, Refused
 use Rattle.commands.proofs.lemmas.Single.{served_verdict}
 use Rattle.abi_top.proofs.lemmas.ParsedArguments.{reply_of}
 use Rattle.library_check.specs.Checks.{Compatible}
+use Rattle.library_check.specs.Inputs.{library_at, rules_at}
 use Rattle.library_check.specs.Remarks.{remark_on}
+use Rattle.library_check.specs.Rows.Check.{CheckSays, check_says}
 use Rattle.report.specs.Listening.{Voice}
 use Rattle.suppression_text.specs.Faults.{rule_fault}
 use Rattle.report.specs.declared.styles.report_option.ReportStyle.TheVariants.{Text}

@@ -1,9 +1,8 @@
 -- What a check in memory requires of two libraries.
-use Rattle.std.specs.Prelude.{◌≡◌, ◌≤◌, ℕ, List, [], length, Option, None}
+use Rattle.std.specs.Prelude.{◌≡◌, ◌≤◌, ℕ, List, [], length, None}
 use Rattle.abi_base.specs.Limits.{input_limit, sink_room}
-use Rattle.abi_base.specs.declared.remark.Remark.{Remark}
-use Rattle.abi_top.specs.Rows.Check.{CheckSays}
 use Rattle.commands.specs.declared.verdict.Verdict.{Verdict}
+use Rattle.library_check.specs.Rows.Check.{CheckSays}
 use Rattle.library_read.specs.Faults.{library_fault}
 
 -- Both libraries are readable, and the sink in memory has room for any answer of `check` about them.

@@ -3,7 +3,7 @@ use Rattle.std.proofs.Common.{◌≡◌, ◌≤◌, ℕ, List, [], ◌∷◌, le
 use Rattle.abi_base.specs.Limits.{input_limit}
 use Rattle.abi_base.specs.declared.remark.Remark.{Remark}
 use Rattle.abi_top.specs.Calls.{Call}
-use Rattle.abi_top.specs.Rows.Check.{CheckSays, OnCheck, check_inputs, check_says}
+use Rattle.abi_top.specs.Rows.Check.{OnCheck}
 use Rattle.cli_args.specs.Commands.{check}
 use Rattle.cli_args.specs.ParsedArguments.{request, arguments_by}
 use Rattle.commands.specs.Commands.{asks_of, places_of}
@@ -15,6 +15,7 @@ use Rattle.commands.specs.declared.verdict.Verdict.TheVariants as verdict
 use Rattle.library_check.specs.Checks.{IsCertificateText, IsReportText}
 use Rattle.library_check.specs.Inputs.{check_asks}
 use Rattle.library_check.specs.Remarks.{remark_on}
+use Rattle.library_check.specs.Rows.Check.{CheckSays, check_inputs, check_says}
 use Rattle.library_check.specs.Voices.{TellsItsText}
 use Rattle.report.specs.Listening.{Voice}
 use Rattle.report.specs.declared.styles.report_option.ReportStyle.{ReportStyle}

@@ -1,10 +1,8 @@
 -- `migrate`: what its verdict says, and that it says one thing.
-use Rattle.std.proofs.Common.{◌≡◌, ℕ, List, [], ◌∷◌, Option, None, refl, sym, ◌∙◌, ap}
+use Rattle.std.proofs.Common.{◌≡◌, ℕ, List, [], ◌∷◌, Option, None, sym, ◌∙◌}
 use Rattle.abi_base.specs.declared.remark.Remark.{Remark}
 use Rattle.abi_top.specs.Calls.{Call}
-use Rattle.abi_top.specs.Rows.Migrate.{MigrateSays, OnMigrate, migrate_inputs, migrate_says}
-use Rattle.abi_top.specs.Text.{refused_text}
-use Rattle.cert_check.specs.declared.refused.Refused.{Refused as Refusal}
+use Rattle.abi_top.specs.Rows.Migrate.{OnMigrate}
 use Rattle.cli_args.specs.Commands.{migrate}
 use Rattle.cli_args.specs.ParsedArguments.{request, arguments_by}
 use Rattle.commands.specs.Commands.{asks_of, places_of}
@@ -12,8 +10,7 @@ use Rattle.commands.specs.Faults.{AreReadable}
 use Rattle.commands.specs.OneReply.{SaysOne}
 use Rattle.commands.specs.Reading.{Gives}
 use Rattle.commands.specs.declared.verdict.Verdict.{Verdict}
-use Rattle.commands.specs.declared.verdict.Verdict.TheVariants as verdict
-use Rattle.library_check.specs.Migrations.{IsMigratedText, IsRefusedMigration}
+use Rattle.library_check.specs.Rows.Migrate.{MigrateSays, migrate_inputs, migrate_says}
 
 module _ (call : Call) (v : Verdict) (untyped : Option Remark) (text : List ℕ) where
   abbrev pub OfMigrate : Type 0
@@ -29,33 +26,17 @@ module _ (call : Call) (v : Verdict) (untyped : Option Remark) (text : List ℕ)
   of_migrate rules_name old_name new_name certificate_name is (old ∷ new ∷ rules ∷ certificate ∷ []) gives readable said = (rules_name, old_name, new_name, certificate_name, old, new, rules, certificate, record { words = is; given = gives; readable = readable }, said)
   of_migrate rules_name old_name new_name certificate_name is (a ∷ b ∷ c ∷ d ∷ e ∷ more) gives readable said = absurd said
 
--- the laws by which it has one answer
-pub record HasOneMigration : Type 0 where
-  pub migration : (old new rules certificate text other : List ℕ) → IsMigratedText old new rules certificate text → IsMigratedText old new rules certificate other → text ≡ other
-  pub refused_migration : (old new rules certificate : List ℕ) (refusal another : Refusal) → IsRefusedMigration old new rules certificate refusal → IsRefusedMigration old new rules certificate another → refusal ≡ another
-  pub migration_apart : (old new rules certificate text : List ℕ) (refusal : Refusal) → IsMigratedText old new rules certificate text → IsRefusedMigration old new rules certificate refusal → ⊥
+-- the law by which it has one answer
+abbrev pub HasOneMigration : Type 0
+HasOneMigration = (old new rules certificate : List ℕ) (v w : Verdict) (text other : List ℕ) → MigrateSays old new rules certificate v text → MigrateSays old new rules certificate w other → (v ≡ w) × (text ≡ other)
 
-module _ (have : HasOneMigration) where
-  one_migration : (old new rules certificate : List ℕ) (v w : Verdict) (text other : List ℕ) → MigrateSays old new rules certificate v text → MigrateSays old new rules certificate w other → (v ≡ w) × (text ≡ other)
-  one_migration old new rules certificate verdict.Done verdict.Done text other one two = (refl, have.migration old new rules certificate text other one.1 two.1)
-  one_migration old new rules certificate verdict.Done verdict.Refused text other one two = absurd (have.migration_apart old new rules certificate text two.0 one.1 two.1)
-  one_migration old new rules certificate verdict.Refused verdict.Done text other one two = absurd (have.migration_apart old new rules certificate other one.0 two.1 one.1)
-  one_migration old new rules certificate verdict.Refused verdict.Refused text other one two =
-      let same = have.refused_migration old new rules certificate one.0 two.0 one.1 two.1 in
-      (refl, one.2 ∙ ap refused_text same ∙ sym two.2)
-  one_migration old new rules certificate verdict.Done verdict.Yes text other one two = absurd two
-  one_migration old new rules certificate verdict.Done verdict.No text other one two = absurd two
-  one_migration old new rules certificate verdict.Refused verdict.Yes text other one two = absurd two
-  one_migration old new rules certificate verdict.Refused verdict.No text other one two = absurd two
-  one_migration old new rules certificate verdict.Yes w text other one two = absurd one
-  one_migration old new rules certificate verdict.No w text other one two = absurd one
-
+module _ (one_answer : HasOneMigration) where
   pub migrate_says_one : (rules_name : Option (List ℕ)) (old_name new_name certificate_name : List ℕ) → SaysOne (migrate_inputs rules_name old_name new_name certificate_name) migrate_says
   migrate_says_one rules_name old_name new_name certificate_name [] short readable v w u x text other one two = absurd one
   migrate_says_one rules_name old_name new_name certificate_name (a ∷ []) short readable v w u x text other one two = absurd one
   migrate_says_one rules_name old_name new_name certificate_name (a ∷ b ∷ []) short readable v w u x text other one two = absurd one
   migrate_says_one rules_name old_name new_name certificate_name (a ∷ b ∷ c ∷ []) short readable v w u x text other one two = absurd one
   migrate_says_one rules_name old_name new_name certificate_name (old ∷ new ∷ rules ∷ certificate ∷ []) short readable v w u x text other one two =
-      let both = one_migration old new rules certificate v w text other one.0 two.0 in
+      let both = one_answer old new rules certificate v w text other one.0 two.0 in
       (both.0, one.1 ∙ sym two.1, both.1)
   migrate_says_one rules_name old_name new_name certificate_name (a ∷ b ∷ c ∷ d ∷ e ∷ more) short readable v w u x text other one two = absurd one

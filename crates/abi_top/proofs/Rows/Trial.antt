@@ -2,11 +2,11 @@
 use Rattle.std.proofs.Common.{◌≡◌, ◌≤◌, ℕ, List, Option, sym, ◌∙◌}
 use Rattle.abi_base.specs.declared.remark.Remark.{Remark}
 use Rattle.abi_top.specs.Calls.{Call}
-use Rattle.abi_top.specs.Rows.Trial.{IsTried, trial_inputs, trial_says}
 use Rattle.cli_args.specs.Commands.{trial}
 use Rattle.cli_args.specs.ParsedArguments.{request, arguments_by}
 use Rattle.commands.specs.OneReply.{SaysOne}
 use Rattle.commands.specs.declared.verdict.Verdict.{Verdict}
+use Rattle.library_check.specs.Rows.Trial.{IsTried, trial_inputs, trial_says}
 use Rattle.library_check.specs.trial.Trials.{IsTrialText}
 use Rattle.trial_libraries.specs.Limits.{most_functions}
 

@@ -1,9 +1,8 @@
 -- `verify`: what its verdict says, and that it says one thing.
-use Rattle.std.proofs.Common.{◌≡◌, ℕ, List, [], ◌∷◌, Option, None, refl, sym, ◌∙◌, ap}
+use Rattle.std.proofs.Common.{◌≡◌, ℕ, List, [], ◌∷◌, Option, Some, None, refl, sym, ◌∙◌, ap}
 use Rattle.abi_base.specs.declared.remark.Remark.{Remark}
 use Rattle.abi_top.specs.Calls.{Call}
-use Rattle.abi_top.specs.Rows.Verify.{OnVerify, VerifySays, verify_inputs, verify_says}
-use Rattle.abi_top.specs.Text.{refused_text}
+use Rattle.abi_top.specs.Rows.Verify.{OnVerify}
 use Rattle.cert_check.specs.declared.refused.Refused.{Refused as Refusal}
 use Rattle.cli_args.specs.Commands.{verify}
 use Rattle.cli_args.specs.ParsedArguments.{request, arguments_by}
@@ -13,9 +12,9 @@ use Rattle.commands.specs.OneReply.{SaysOne}
 use Rattle.commands.specs.Reading.{Gives}
 use Rattle.commands.specs.declared.verdict.Verdict.{Verdict}
 use Rattle.commands.specs.declared.verdict.Verdict.TheVariants as verdict
+use Rattle.library_check.specs.Rows.Verify.{VerifySays, verify_inputs, verify_says}
+use Rattle.library_check.specs.Text.{refused_text}
 use Rattle.library_check.specs.Verifications.{IsVerified}
-use Rattle.library_check.specs.declared.verifying.Verified.{Verified}
-use Rattle.library_check.specs.declared.verifying.Verified.TheVariants as verified
 
 module _ (call : Call) (v : Verdict) (untyped : Option Remark) (text : List ℕ) where
   abbrev pub OfVerify : Type 0
@@ -33,25 +32,25 @@ module _ (call : Call) (v : Verdict) (untyped : Option Remark) (text : List ℕ)
 
 -- the law by which it has one answer
 abbrev pub HasOneVerification : Type 0
-HasOneVerification = (old new rules certificate : List ℕ) (one other : Verified) → IsVerified old new rules certificate one → IsVerified old new rules certificate other → one ≡ other
+HasOneVerification = (old new rules certificate : List ℕ) (one other : Option Refusal) → IsVerified old new rules certificate one → IsVerified old new rules certificate other → one ≡ other
 
-same_refusal : (a b : Refusal) → verified.Refused a ≡ verified.Refused b → a ≡ b
+same_refusal : (a b : Refusal) → Some a ≡ Some b → a ≡ b
 same_refusal a b is = cc
 
-accepted_is_refused : (a : Refusal) → verified.Accepted ≡ verified.Refused a → ⊥
+accepted_is_refused : (a : Refusal) → None ≡ Some a → ⊥
 accepted_is_refused a is = cc
 
 module _ (one_answer : HasOneVerification) where
   one_verification : (old new rules certificate : List ℕ) (v w : Verdict) (text other : List ℕ) → VerifySays old new rules certificate v text → VerifySays old new rules certificate w other → (v ≡ w) × (text ≡ other)
   one_verification old new rules certificate verdict.Yes verdict.Yes text other one two = (refl, one.3 ∙ sym two.3)
   one_verification old new rules certificate verdict.Yes verdict.Refused text other one two =
-      absurd (accepted_is_refused two.0 (one_answer old new rules certificate verified.Accepted (verified.Refused two.0) (one.0, one.1) two.1))
+      absurd (accepted_is_refused two.0 (one_answer old new rules certificate None (Some two.0) (one.0, one.1) two.1))
   one_verification old new rules certificate verdict.Yes verdict.No text other one two = absurd two
   one_verification old new rules certificate verdict.Yes verdict.Done text other one two = absurd two
   one_verification old new rules certificate verdict.Refused verdict.Yes text other one two =
-      absurd (accepted_is_refused one.0 (one_answer old new rules certificate verified.Accepted (verified.Refused one.0) (two.0, two.1) one.1))
+      absurd (accepted_is_refused one.0 (one_answer old new rules certificate None (Some one.0) (two.0, two.1) one.1))
   one_verification old new rules certificate verdict.Refused verdict.Refused text other one two =
-      let same = same_refusal one.0 two.0 (one_answer old new rules certificate (verified.Refused one.0) (verified.Refused two.0) one.1 two.1) in
+      let same = same_refusal one.0 two.0 (one_answer old new rules certificate (Some one.0) (Some two.0) one.1 two.1) in
       (refl, one.2 ∙ ap refused_text same ∙ sym two.2)
   one_verification old new rules certificate verdict.Refused verdict.No text other one two = absurd two
   one_verification old new rules certificate verdict.Refused verdict.Done text other one two = absurd two

@@ -1,35 +1,13 @@
--- `app`: what it reads and says. It says yes with the exports that the application uses, or no with the report on them that
--- listeners of these voices make.
+-- `app`: what `run` promises of it.
 use Rattle.std.specs.Prelude.{◌≡◌, ℕ, List, [], ◌∷◌, Option, Some}
 use Rattle.abi_base.specs.declared.remark.Remark.{Remark}
 use Rattle.abi_top.specs.Calls.{Call, Reads}
-use Rattle.abi_top.specs.Inputs.{library_at, rules_at}
-use Rattle.app_check.specs.Imports.{app_fault}
 use Rattle.cli_args.specs.Commands.{app}
-use Rattle.commands.specs.Commands.{Wanted, named}
-use Rattle.commands.specs.declared.input.Input.TheVariants.{Old, New, App}
-use Rattle.commands.specs.declared.verdict.Verdict.{Verdict}
-use Rattle.commands.specs.declared.verdict.Verdict.TheVariants.{Yes, No, Refused, Done}
 use Rattle.library_check.specs.Applications.{AgreedFor, IsAppReportText, IsCompatibleFor, KeepsLeavesFor, uses_for}
 use Rattle.library_check.specs.Remarks.{remark_on}
-use Rattle.report.specs.Listening.{Voice}
+use Rattle.library_check.specs.Rows.App.{app_inputs}
 use Rattle.report.specs.declared.styles.report_option.ReportStyle.{ReportStyle}
 use Rattle.report.specs.styles.Wanted.{wanted_voices}
-
--- the application is checked only for the faults that prevent reading its imports
-abbrev pub app_inputs : (rules : Option (List ℕ)) (program old new : List ℕ) → List Wanted
-app_inputs rules program old new =
-    record { which = App; source = named program; fault_in = app_fault } ∷ library_at Old (named old) ∷ library_at New (named new) ∷ rules_at rules ∷ []
-
-abbrev pub AppSays : List Voice → List ℕ → List ℕ → List ℕ → List ℕ → Verdict → List ℕ → Type 0
-AppSays voices program old new rules Yes text = IsCompatibleFor program old new rules × (text ≡ uses_for program old new rules)
-AppSays voices program old new rules No text = (IsCompatibleFor program old new rules → ⊥) × IsAppReportText voices program old new rules text
-AppSays voices program old new rules Refused text = ⊥
-AppSays voices program old new rules Done text = ⊥
-
-abbrev pub app_says : List Voice → List (List ℕ) → Verdict → Option Remark → List ℕ → Type 0
-app_says voices (program ∷ old ∷ new ∷ rules ∷ []) v untyped text = AppSays voices program old new rules v text × (untyped ≡ Some (remark_on old new))
-app_says voices all v untyped text = ⊥
 
 -- the command is `app`, and P holds for the style and the readable application, old library, new library and rule file
 abbrev pub OnApp : Call → (ReportStyle → List ℕ → List ℕ → List ℕ → List ℕ → Type 0) → Type 0
@@ -37,7 +15,7 @@ OnApp call P =
     (rules_name : Option (List ℕ)) × (report : ReportStyle) × (app_name old_name new_name program old new rules : List ℕ)
     × Reads call (app rules_name report app_name old_name new_name) (app_inputs rules_name app_name old_name new_name) (program ∷ old ∷ new ∷ rules ∷ []) × P report program old new rules
 
--- ---- what `run` promises of `app`, where P holds for the text that was appended
+-- ---- where P holds for the text that was appended
 
 -- Yes: the new library may replace the old one in the exports that the application uses and that the rule file does not drop, if all
 -- others are taken as dropped. The text names these exports.

@@ -1,33 +1,14 @@
--- `check`: what it reads and says. It says yes with the certificate, which shows a relation that proves the yes, or no with the
--- report that listeners of these voices make.
+-- `check`: what `run` promises of it.
 use Rattle.std.specs.Prelude.{◌≡◌, ℕ, List, [], ◌∷◌, Option, Some}
 use Rattle.abi_base.specs.declared.remark.Remark.{Remark}
 use Rattle.abi_top.specs.Calls.{Call, Reads}
-use Rattle.abi_top.specs.Inputs.{library_at, rules_at}
 use Rattle.cli_args.specs.Commands.{check}
-use Rattle.commands.specs.Commands.{Wanted, named}
-use Rattle.commands.specs.declared.input.Input.TheVariants.{Old, New}
-use Rattle.commands.specs.declared.verdict.Verdict.{Verdict}
-use Rattle.commands.specs.declared.verdict.Verdict.TheVariants.{Yes, No, Refused, Done}
 use Rattle.library_check.specs.Checks.{Agreed, Compatible, IsCertificateText, IsReportText, KeepsLeaves}
 use Rattle.library_check.specs.Relations.{IsRelationText}
 use Rattle.library_check.specs.Remarks.{remark_on}
-use Rattle.report.specs.Listening.{Voice}
+use Rattle.library_check.specs.Rows.Check.{check_inputs}
 use Rattle.report.specs.declared.styles.report_option.ReportStyle.{ReportStyle}
 use Rattle.report.specs.styles.Wanted.{wanted_voices}
-
-abbrev pub check_inputs : (rules : Option (List ℕ)) (old new : List ℕ) → List Wanted
-check_inputs rules old new = library_at Old (named old) ∷ library_at New (named new) ∷ rules_at rules ∷ []
-
-abbrev pub CheckSays : List Voice → List ℕ → List ℕ → List ℕ → Verdict → List ℕ → Type 0
-CheckSays voices old new rules Yes text = Compatible old new rules × IsCertificateText old new rules text × IsRelationText old new rules text
-CheckSays voices old new rules No text = (Compatible old new rules → ⊥) × IsReportText voices old new rules text
-CheckSays voices old new rules Refused text = ⊥
-CheckSays voices old new rules Done text = ⊥
-
-abbrev pub check_says : List Voice → List (List ℕ) → Verdict → Option Remark → List ℕ → Type 0
-check_says voices (old ∷ new ∷ rules ∷ []) v untyped text = CheckSays voices old new rules v text × (untyped ≡ Some (remark_on old new))
-check_says voices all v untyped text = ⊥
 
 -- the command is `check`, and P holds for the style and the readable old library, new library and rule file
 abbrev pub OnCheck : Call → (ReportStyle → List ℕ → List ℕ → List ℕ → Type 0) → Type 0
@@ -35,7 +16,7 @@ OnCheck call P =
     (rules_name : Option (List ℕ)) × (report : ReportStyle) × (old_name new_name old new rules : List ℕ)
     × Reads call (check rules_name report old_name new_name) (check_inputs rules_name old_name new_name) (old ∷ new ∷ rules ∷ []) × P report old new rules
 
--- ---- what `run` promises of `check`, where P holds for the text that was appended
+-- ---- where P holds for the text that was appended
 
 -- Yes: the new library may replace the old one in all that the rule file does not suppress. The text is the certificate, which the
 -- checker accepts; it shows a relation between types that proves the yes.

@@ -14,10 +14,10 @@ ghost use Rattle.library_check.specs.trial.Trials.{IsSaid, IsTrialText, new_libr
 
 use crate::checking::no_rules;
 use crate::trial::summary::summarize;
-use crate::{Checked, judge, read_pair};
+use crate::{judge, read_pair};
 use abi_base::NoMemory;
 use abi_types::{Library, NewIx, OldIx};
-use commands::Stop;
+use commands::{Judgement, Stop, Verdict};
 use report::{Listener, TextListener};
 use std::alloc::Global;
 
@@ -37,8 +37,8 @@ fn judge_plainly(
     alloc: Global,
     old: &Library<OldIx>,
     new: &Library<NewIx>,
-) -> Result<Checked, NoMemory>
-    ensures judged { IfOk result (IsJudged trial_voices old.now new.now (rules_of [])) }
+) -> Result<Judgement, NoMemory>
+    ensures judged { IfOk result (λ j. IsJudged trial_voices old.now new.now (rules_of []) j.verdict j.text.items) }
     ensures past { IfErr result (λ e. OnLimit e (JudgementPasses old.now new.now (rules_of []))) }
 {
     let listeners = alone(alloc, Box::new(alloc, TextListener::new(alloc))?)?;
@@ -60,9 +60,11 @@ fn try_read(
     ensures past { IfErr result (λ e. OnLimit e (TrialPasses n)) }
 {
     let exports = old.exports().len();
-    match judge_plainly(alloc, old, new)? {
-        Checked::Yes(text) => Ok(summarize(alloc, n, "yes", exports, text.as_slice())?),
-        Checked::No(text) => Ok(summarize(alloc, n, "no", exports, text.as_slice())?),
+    let said = judge_plainly(alloc, old, new)?;
+    match said.verdict {
+        Verdict::Yes => Ok(summarize(alloc, n, "yes", exports, said.text.as_slice())?),
+        Verdict::No => Ok(summarize(alloc, n, "no", exports, said.text.as_slice())?),
+        Verdict::Refused | Verdict::Done => unreachable!(),
     }
 }
 

@@ -4,8 +4,10 @@ use Rattle.abi_base.specs.Causes.{AppendsFront}
 use Rattle.abi_top.specs.Answer.{Answers}
 use Rattle.abi_top.specs.Calls.{Call}
 use Rattle.cli_args.specs.Words.{texts}
+use Rattle.commands.specs.Commands.{items_of}
 use Rattle.commands.specs.Reading.{reading_of}
 use Rattle.commands.specs.declared.outcome.Outcome.TheVariants.{Help}
+use Rattle.abi_top.proofs.OfRead.{with_text}
 use Rattle.abi_top.proofs.lemmas.ParsedArguments.{complete_says, fault_says}
 use Rattle.abi_top.proofs.Rows.{done_says, itself_says, no_agreed, no_says, refused_says, yes_agreed, yes_leaves, yes_says}
 use Rattle.abi_top.proofs.Single.{help_alone, help_says, usage_alone, version_alone}
@@ -18,6 +20,13 @@ returns-in-Ok-write_all-clause-yes g c = λ untyped is.
     let whole : A c.in-Ok.answer.text.items = subst A c.deref.ensures.value c.in-Ok-write_all.ensures.whole in
     let answers = subst (λ o. Answers call o c.in-Ok.answer.text.items) is c.in-Ok.ensures.answers in
     yes_says call untyped c.in-Ok.answer.text.items A whole answers
+
+pub returns-in-Ok-write_all-clause-read : goal.returns-in-Ok-write_all-clause-read
+returns-in-Ok-write_all-clause-read g c =
+    let call : Call = record { words = texts c.args.words.now; voices = map (λ b. (goal.Listener-dyn g (b.vtable, b.value)).voice b.value) c.args.listeners.items; reading = reading_of g.I.Inputs.told g.I.Inputs.faults g.I.Inputs.given g.I.Inputs.started c.args.inputs.now c.answer_to.new.inputs } in
+    let A : List ℕ → Type 0 = λ t. Appends (g.S.Sink.held c.args.sink.now) (g.S.Sink.held c.write_all.new.sink) t in
+    let whole : A c.in-Ok.answer.text.items = subst A c.deref.ensures.value c.in-Ok-write_all.ensures.whole in
+    with_text call c.in-Ok.answer.read.roles.items (map items_of c.in-Ok.answer.read.all.items) c.in-Ok.answer.outcome c.in-Ok.answer.text.items A c.in-Ok.ensures.read whole
 
 pub returns-in-Ok-write_all-clause-no : goal.returns-in-Ok-write_all-clause-no
 returns-in-Ok-write_all-clause-no g c = λ untyped is.

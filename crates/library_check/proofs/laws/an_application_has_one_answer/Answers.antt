@@ -13,7 +13,7 @@ returns-clause-report c = λ voices app old new rules text other tell old_short 
 
 pub returns-clause-answer : goal.returns-clause-answer
 unfolding library_of
-returns-clause-answer c = λ voices app old new rules one other tell old_short new_short old_readable new_readable first second.
+returns-clause-answer c = λ voices app old new rules v w text other tell old_short new_short old_readable new_readable first second.
     one_said c.two_libraries_have_one_right_answer.ensures voices tell (sides_for app old new rules)
     (c.nodes_stand_for_what_exports_reach.ensures.graph old old_short old_readable)
-    (c.nodes_stand_for_what_exports_reach.ensures.graph new new_short new_readable) one other first second
+    (c.nodes_stand_for_what_exports_reach.ensures.graph new new_short new_readable) v w text other first second

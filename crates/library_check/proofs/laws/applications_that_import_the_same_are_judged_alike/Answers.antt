@@ -8,7 +8,7 @@ returns-clause-sides c = sides_alike
 
 pub returns-clause-answer : goal.returns-clause-answer
 unfolding library_of
-returns-clause-answer c = λ voices app other old new rules said told tell old_short new_short old_readable new_readable same first second.
+returns-clause-answer c = λ voices app other old new rules v w text answer tell old_short new_short old_readable new_readable same first second.
     said_alike c.two_libraries_have_one_right_answer.ensures voices tell app other old new rules same
     (c.nodes_stand_for_what_exports_reach.ensures.graph old old_short old_readable)
-    (c.nodes_stand_for_what_exports_reach.ensures.graph new new_short new_readable) said told first second
+    (c.nodes_stand_for_what_exports_reach.ensures.graph new new_short new_readable) v w text answer first second

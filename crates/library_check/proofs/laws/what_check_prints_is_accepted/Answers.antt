@@ -3,7 +3,6 @@ use Rattle.commands.proofs.lemmas.Stops.{readable_stops}
 use Rattle.library_check.specs.Checks.{sides_of}
 use Rattle.library_check.specs.Rows.Verify.{verify_asks, verify_passes}
 use Rattle.library_check.specs.Verifications.{certificate_fault}
-use Rattle.library_check.specs.declared.verifying.Verified.TheVariants.{Accepted}
 use Rattle.library_check.proofs.Verdicts.{accepted}
 use Rattle.library_check.proofs.laws.what_check_prints_is_accepted.Goals as goal
 
@@ -15,7 +14,7 @@ returns-clause-accepted c = λ old new rules text is. accepted (sides_of old new
 
 pub returns-clause-alone : goal.returns-clause-alone
 returns-clause-alone c = λ old new rules text said is verified.
-    c.a_verification_has_one_answer.ensures old new rules text said Accepted verified (is.proved.compatible, accepted (sides_of old new rules) text is)
+    c.a_verification_has_one_answer.ensures old new rules text said None verified (is.proved.compatible, accepted (sides_of old new rules) text is)
 
 pub returns-clause-memory : goal.returns-clause-memory
 returns-clause-memory c = λ old new rules text stop readable is stops.

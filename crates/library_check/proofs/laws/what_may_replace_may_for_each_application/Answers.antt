@@ -11,5 +11,5 @@ returns-clause-compatible c = λ app old new rules compatible.
     compatible_used c.roots_are_typed_pairs.ensures.exact (imports_of app) (library_of old) (library_of new) (rules_of rules) compatible
 
 pub returns-clause-yes : goal.returns-clause-yes
-returns-clause-yes c = λ voices app old new rules said compatible is.
-    not_no voices (sides_for app old new rules) said (compatible_used c.roots_are_typed_pairs.ensures.exact (imports_of app) (library_of old) (library_of new) (rules_of rules) compatible) is
+returns-clause-yes c = λ voices app old new rules v text compatible is.
+    not_no voices (sides_for app old new rules) v text (compatible_used c.roots_are_typed_pairs.ensures.exact (imports_of app) (library_of old) (library_of new) (rules_of rules) compatible) is
