@@ -529,7 +529,7 @@ def test_a_report_says_why_it_has_no_notes(project: Project, monkeypatch: pytest
     """If they would pass a limit, the report says so, and a strict yes is none."""
     old = project.build("old")
     missing = "this passes the limit Notes"
-    stand_in(project, monkeypatch, breaks=[], missing_side_notes=missing)
+    stand_in(project, monkeypatch, breaks=[one_break("X2", "old_name", "")], missing_side_notes=missing)
     assert f"there are no notes: {missing}" in report(old, old).out
     stand_in(project, monkeypatch, breaks=[], missing_side_notes=missing, answer="yes", status=0, text="")
     assert report("--strict", old, old).status == 2
